@@ -1,0 +1,2 @@
+-- The definitions that the promises of `refusal` cite.
+pub mod Numbers

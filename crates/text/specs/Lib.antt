@@ -1,0 +1,2 @@
+-- The definitions that the promises of `text` cite.
+pub mod Kinds
