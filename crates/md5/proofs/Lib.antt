@@ -1,0 +1,2 @@
+-- What the proofs of `md5`'s functions share.
+pub mod Turns
