@@ -1,2 +1,3 @@
 -- What the proofs of `md5`'s functions share.
 pub mod Turns
+pub mod Sums

@@ -1,6 +1,8 @@
 -- Helper definitions of the compression: nothing outside this crate rests on them.
 use Prim.Native.Nat.{ℕ, zero, suc}
-use mathlib.Core.List.{List}
+use mathlib.Core.List.{List, [], _∷_}
+use mathlib.Core.Bool.{Bool, true, _&&_}
+use lib.Dec.{ltb}
 use lib.ListN.{getD}
 use Rattle.block.specs.Lists.{upTo}
 use Rattle.md5.specs.declared.State.{State}
@@ -22,3 +24,8 @@ turns f shifts y (suc n) q =
 -- The sixteen sums of a round.
 unfoldable pub sums : List ℕ → List ℕ → List ℕ → List ℕ
 sums X order constants = upTo 16 (λ k. add (getD X (getD order k 0) 0) (getD constants k 0))
+
+-- Every number of the list is below n.
+abbrev pub below : ℕ → List ℕ → Bool
+below n [] = true
+below n (x ∷ xs) = ltb x n && below n xs

@@ -4,6 +4,8 @@
 mod words;
 // The four rounds and what they do to the registers.
 mod rounds;
+// One block taken into the registers.
+mod compress;
 
 // The four registers A, B, C, D.
 pub struct State {
