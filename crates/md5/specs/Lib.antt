@@ -1,4 +1,5 @@
 -- The definitions that the promises of `md5` cite.
 pub mod Md5
 pub mod Inside
+pub mod Laws
 pub mod Examples

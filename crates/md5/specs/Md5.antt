@@ -1,9 +1,14 @@
 -- MD5 as RFC 1321 gives it: the registers, the four functions, the four rounds, the digest.
 use Prim.Native.Nat.{ℕ, zero, suc, _+_, _*_, _-_, _/_, _%_, _^_}
 use mathlib.Core.List.{List, [], _∷_, _++_}
+use mathlib.Core.Bool.{cond}
+use lib.Dec.{ltb}
 use lib.Bits.{bitAnd, bitOr, bitXor}
 use lib.ListN.{length, getD}
 use Rattle.block.specs.Padding.{little, blocks, absorbed}
+use Rattle.refusal.specs.declared.Refusal.{Refusal}
+use Rattle.refusal.specs.declared.Written.{Written}
+use Rattle.text.specs.Front.{writtenOf}
 use Rattle.md5.specs.declared.State.{State}
 
 -- 2: X + Y, modulo 2^32; X <<< s, X's bits shifted left around by s; not(X)
@@ -132,3 +137,8 @@ bytes4 x = (x % 256) ∷ (x / 256 % 256) ∷ (x / 65536 % 256) ∷ (x / 16777216
 unfoldable pub md5 : List ℕ → List ℕ
 md5 m =
     bytes4 (registers m .a) ++ bytes4 (registers m .b) ++ bytes4 (registers m .c) ++ bytes4 (registers m .d)
+
+-- 01, From pass-phrase to password: "MD5 takes 0 to 4,096 bytes"; Refusal numbers, 12, then 40. The
+-- answer on a message m and a buffer of `room` bytes.
+abbrev pub digestOf : List ℕ → ℕ → Written
+digestOf m room = cond (ltb 4096 (length m)) (Written.Refused Refusal.InputLong) (writtenOf room (md5 m))

@@ -5,7 +5,9 @@ mod words;
 // The four rounds and what they do to the registers.
 mod rounds;
 // One block taken into the registers.
-mod compress;
+pub mod compress;
+// The digest of a message.
+pub mod digest;
 
 // The four registers A, B, C, D.
 pub struct State {
