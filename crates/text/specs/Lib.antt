@@ -6,3 +6,4 @@ pub mod Front
 pub mod ScanLaws
 pub mod FrontLaws
 pub mod DigitLaws
+pub mod Quoted
