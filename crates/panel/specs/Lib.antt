@@ -1,0 +1,2 @@
+-- The definitions that the promises of `panel` cite.
+pub mod Answers
