@@ -1,0 +1,12 @@
+/* The plain C that the benchmark compares with. */
+#ifndef PLAIN_MD5_H
+#define PLAIN_MD5_H
+
+#include <stddef.h>
+#include <stdint.h>
+
+void plain_md5(const uint8_t *text, size_t len, uint8_t digest[16]);
+uint64_t plain_password(const uint8_t *phrase, size_t phrase_len,
+                        const uint8_t *seed, size_t seed_len, uint32_t count);
+
+#endif
