@@ -6,7 +6,11 @@
 #include <string.h>
 
 #define F(x, y, z) (((x) & (y)) | (~(x) & (z)))
+#ifdef G_AS_SUM /* tuned_md5.c */
+#define G(x, y, z) (((x) & (z)) + ((y) & ~(z)))
+#else
 #define G(x, y, z) (((x) & (z)) | ((y) & ~(z)))
+#endif
 #define H(x, y, z) ((x) ^ (y) ^ (z))
 #define I(x, y, z) ((y) ^ ((x) | ~(z)))
 
