@@ -62,22 +62,25 @@ EXAMPLES = [
 ]
 
 
-def examples(driver):
-    """The model gives document 01's answers; so does the driver to the calls that are in C."""
-    lines, answers = zip(*EXAMPLES)
+def hold_both_to(driver, lines, answers):
+    """The model gives these answers; so does the driver to the calls that are in C."""
     harness.hold_to(lines, model.replay("\n".join(lines)), answers)
-    in_c, wanted = zip(*[(line, answer) for line, answer in EXAMPLES
+    in_c, wanted = zip(*[(line, answer) for line, answer in zip(lines, answers)
                          if line.split()[0] in harness.IN_C])
     harness.hold_to(in_c, harness.asked(driver, in_c), wanted)
-    return f"{len(lines)} on the model, {len(in_c)} of them through the driver"
+    return f"{len(lines)} calls on the model, {len(in_c)} of them through the driver"
 
 
-def scripts(_):
-    """Two recorded scripts with answers from elsewhere: the model reads document 01 alike."""
-    total = 0
+def examples(driver):
+    """Document 01's own answers."""
+    return hold_both_to(driver, *zip(*EXAMPLES))
+
+
+def scripts(driver):
+    """Two recorded scripts with answers from elsewhere, which read document 01 alike."""
+    said = []
     for name in ("base_a", "base_b"):
         lines, answers = ((ROOT / "host" / "replay" / f"{name}.{kind}").read_text().splitlines()
                           for kind in ("calls", "answers"))
-        harness.hold_to(lines, model.replay("\n".join(lines)), answers)
-        total += len(lines)
-    return f"{total} calls of two scripts: the model gives their answers"
+        said.append(hold_both_to(driver, lines, answers))
+    return "; ".join(said)
