@@ -4,13 +4,11 @@
 #define _DEFAULT_SOURCE
 #include "lift.h" /* first: it needs no other header */
 
-#include <stdbool.h>
 #include <stdio.h>
-#include <string.h>
 
-#include "fence.h"
+#include "lend.h"
 
-enum { GUARD = 64, MOST_LENT = 8192, SIDES = 2 };
+enum { SIDES = 2 };
 
 static int checks;
 
@@ -30,31 +28,11 @@ static void done(const char *function)
     checks = 0;
 }
 
-/* A buffer to lend to a writer, with guard bytes on both sides. */
-static uint8_t around[GUARD + MOST_LENT + GUARD];
-
-static uint8_t *lent(void)
-{
-    memset(around, 0xaa, sizeof around);
-    return around + GUARD;
-}
-
-/* Only the first `written` bytes of what was lent were touched. */
-static bool touched_only(size_t written)
-{
-    for (size_t i = 0; i < sizeof around; i++) {
-        bool reported = i >= GUARD && i < GUARD + written;
-        if (!reported && around[i] != 0xaa)
-            return false;
-    }
-    return true;
-}
-
 /* A text to lend for reading: on side 0 it ends at a closed page, on side 1
  * it starts at one. */
 static uint8_t *text_at(int side, int field, const void *bytes, size_t len)
 {
-    uint8_t *at = side == 0 ? fence_last(field, len) : fence_first(field);
+    uint8_t *at = side == 0 ? last_of(field, len) : first_of(field);
     if (len > 0)
         memcpy(at, bytes, len);
     return at;
@@ -116,7 +94,7 @@ static void check_md5_room(void)
 
 static void check_md5_length(void)
 {
-    static const uint8_t zeros[FENCE_ROOM];
+    static const uint8_t zeros[FIELD];
     for (int side = 0; side < SIDES; side++) {
         for (size_t len = 0; len <= 4100; len++) {
             uint8_t *text = text_at(side, 0, zeros, len), *digest = lent();
@@ -231,7 +209,7 @@ static void check_password(void)
 
 int main(void)
 {
-    fence_make(2);
+    make_fields();
     check_md5();
     check_password();
     return 0;

@@ -3,15 +3,12 @@
  * that can't be read, so a read past one's end stops the program. */
 #define _DEFAULT_SOURCE
 #include <inttypes.h>
-#include <stdbool.h>
 #include <stdio.h>
-#include <stdlib.h>
-#include <string.h>
 
-#include "fence.h"
+#include "lend.h"
 #include "lift.h"
 
-enum { MOST_WORDS = 4, MOST_ROOM = 8192, MOST_NUMBER = 65535 };
+enum { MOST_WORDS = MOST_FIELDS, MOST_NUMBER = 65535 };
 
 /* One word of a call: a number (of which a password is one), or bytes. */
 typedef struct {
@@ -106,10 +103,10 @@ static bool take_password(const char *text, word *out)
 static bool take_text(const char *text, int at, word *out)
 {
     out->len = strcmp(text, "-") == 0 ? 0 : strlen(text) / 2;
-    if (out->len > FENCE_ROOM || (out->len == 0 && strcmp(text, "-") != 0) ||
+    if (out->len > FIELD || (out->len == 0 && strcmp(text, "-") != 0) ||
         (out->len > 0 && strlen(text) % 2 != 0))
         return false;
-    uint8_t *bytes = fence_last(at, out->len);
+    uint8_t *bytes = last_of(at, out->len);
     for (size_t i = 0; i < out->len; i++) {
         int high = digit(text[2 * i]), low = digit(text[2 * i + 1]);
         if (high < 0 || low < 0)
@@ -158,7 +155,7 @@ int main(void)
     char *line = NULL;
     size_t room = 0;
     ssize_t len;
-    fence_make(MOST_WORDS);
+    make_fields();
     while ((len = getline(&line, &room, stdin)) > 0) {
         if (line[len - 1] == '\n')
             line[--len] = '\0';
