@@ -42,17 +42,22 @@ static void print_reading(lift_reading r)
         printf("no %" PRIu32 "\n", r.refusal);
 }
 
+/* What a writer says it wrote; none of it where that can't be. */
+static void print_lent(size_t written)
+{
+    print_hex(around + GUARD, written <= MOST_ROOM ? written : 0);
+}
+
 static void answer_md5(const word *given)
 {
-    uint8_t digest[16];
-    lift_written w = lift_md5(given[0].bytes, given[0].len, digest, sizeof digest);
+    lift_written w = lift_md5(given[0].bytes, given[0].len, lent(), 16);
     if (w.refusal != 0) {
         printf("no %" PRIu32 "\n", w.refusal);
         return;
     }
     printf("ok ");
-    print_hex(digest, w.written);
-    putchar('\n');
+    print_lent(w.written);
+    puts(touched_only(w.written) ? "" : " dirty");
 }
 
 static void answer_gen(const word *given)
