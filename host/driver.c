@@ -32,14 +32,17 @@ static void print_hex(const uint8_t *bytes, size_t len)
         printf("%02x", bytes[i]);
 }
 
+/* After a refusal every field but 31's place has to be 0. */
 static void print_reading(lift_reading r)
 {
+    bool clean = (r.refusal == 0 || r.password == 0) && (r.refusal == 31 || r.place == 0);
     if (r.refusal == 0)
-        printf("ok %016" PRIx64 "\n", r.password);
+        printf("ok %016" PRIx64, r.password);
     else if (r.refusal == 31)
-        printf("no 31 %" PRIu32 "\n", r.place);
+        printf("no 31 %" PRIu32, r.place);
     else
-        printf("no %" PRIu32 "\n", r.refusal);
+        printf("no %" PRIu32, r.refusal);
+    puts(clean ? "" : " dirty");
 }
 
 /* What a writer says it wrote; none of it where that can't be. */
