@@ -1,6 +1,6 @@
 -- The sums made first: that they are in reach of the block, and that a round by them is the RFC's.
 use Prim.Native.Nat.{ℕ, zero, suc, _+_, _%_, _^_, _<_, _≤_}
-use mathlib.Core.Path.{_≡_, refl, ap, sym, _∙_}
+use mathlib.Core.Path.{_≡_, refl, ap, ap₂, sym, _∙_}
 use mathlib.Core.Bool.{Bool, true, false, _&&_}
 use mathlib.Core.List.{List, [], _∷_}
 use borrow.Author.Tests.{ltb-true}
@@ -10,8 +10,8 @@ use lib.Dec.{ltb}
 use lib.ListN.{getD}
 use Rattle.block.specs.Lists.{getD-upTo}
 use Rattle.md5.specs.declared.State.{State}
-use Rattle.md5.specs.Md5.{add, rotated, Round, operation, performed}
-use Rattle.md5.specs.Inside.{below, turn, turns, sums}
+use Rattle.md5.specs.Md5.{add, rotated, Round, operation, performed, round1, round2, round3, round4, rounds, increased, compressed}
+use Rattle.md5.specs.Inside.{below, turn, turns, sums, mixed}
 
 both : (a b : Bool) → (a && b) ≡ true → (a ≡ true) × (b ≡ true)
 both true b e = (refl, e)
@@ -54,9 +54,24 @@ performed-turns r X q (suc n) h =
     ∙ ap (λ (p : State). turn (f (p .b) (p .c) (p .d)) (getD (sums X (r .order) (r .constants)) n 0) s p)
     (performed-turns r X q n (omega arith))
 
--- A round as the code does it.
-pub round-by-sums : (r : Round) (X y : List ℕ) (q p : State) → y ≡ sums X (r .order) (r .constants)
-    → p ≡ turns (r .function) (r .shifts) y 16 q → p ≡ performed r X 16 q
-round-by-sums r X y q p e g =
-    g ∙ ap (λ (z : List ℕ). turns (r .function) (r .shifts) z 16 q) e
+-- A round as the code does it, on registers p that are q.
+round-by-sums : (r : Round) (X y : List ℕ) (p q : State) → y ≡ sums X (r .order) (r .constants) → p ≡ q
+    → turns (r .function) (r .shifts) y 16 p ≡ performed r X 16 q
+round-by-sums r X y p q e g =
+    ap₂ (λ (z : List ℕ) (x : State). turns (r .function) (r .shifts) z 16 x) e g
     ∙ sym (performed-turns r X q 16 (omega arith))
+
+-- The four rounds on their sums, and the increment, are the RFC's.
+pub compressed-by-sums : (X y₁ y₂ y₃ y₄ : List ℕ) (q p : State)
+    → y₁ ≡ sums X (round1 .order) (round1 .constants)
+    → y₂ ≡ sums X (round2 .order) (round2 .constants)
+    → y₃ ≡ sums X (round3 .order) (round3 .constants)
+    → y₄ ≡ sums X (round4 .order) (round4 .constants)
+    → p ≡ mixed q y₁ y₂ y₃ y₄
+    → p ≡ compressed X q
+unfolding mixed compressed rounds round1 round2 round3 round4
+compressed-by-sums X y₁ y₂ y₃ y₄ q p e₁ e₂ e₃ e₄ e =
+    e
+    ∙ ap (λ (x : State). increased x q)
+    (round-by-sums round4 X y₄ _ _ e₄
+    (round-by-sums round3 X y₃ _ _ e₃ (round-by-sums round2 X y₂ _ _ e₂ (round-by-sums round1 X y₁ q q e₁ refl))))

@@ -6,7 +6,7 @@ use lib.Dec.{ltb}
 use lib.ListN.{getD}
 use Rattle.block.specs.Lists.{upTo}
 use Rattle.md5.specs.declared.State.{State}
-use Rattle.md5.specs.Md5.{add, rotated}
+use Rattle.md5.specs.Md5.{add, rotated, F, G, H, I, round1, round2, round3, round4, increased}
 
 -- An operation with the function's value v at hand and the sum y of message word and constant made
 -- beforehand, so that v is waited for by one addition only.
@@ -29,3 +29,10 @@ sums X order constants = upTo 16 (λ k. add (getD X (getD order k 0) 0) (getD co
 abbrev pub below : ℕ → List ℕ → Bool
 below n [] = true
 below n (x ∷ xs) = ltb x n && below n xs
+
+-- The four rounds by their turns on the sums y₁ to y₄, and the increment.
+unfoldable pub mixed : State → List ℕ → List ℕ → List ℕ → List ℕ → State
+mixed q y₁ y₂ y₃ y₄ =
+    increased
+    (turns I (round4 .shifts) y₄ 16 (turns H (round3 .shifts) y₃ 16 (turns G (round2 .shifts) y₂ 16 (turns F (round1 .shifts) y₁ 16 q))))
+    q

@@ -1,6 +1,7 @@
 // RFC 1321, 3.4: one block taken into the registers.
 ghost use mathlib.Core.Path.{_≡_};
 ghost use mathlib.Core.Bool.{true};
+ghost use mathlib.Core.List.{_++_};
 ghost use Rattle.md5.specs.Md5 as spec;
 ghost use Rattle.md5.specs.Inside as inside;
 use crate::State;
@@ -123,13 +124,48 @@ fn increased(q: State, p: State) -> State
     }
 }
 
+// The four rounds on their sums, and the increment. It has two callers and so stays a function of its
+// own: with the constants in sight the compiler would add them last, where the next operation waits.
+fn mixed(q: State, y1: [u32; 16], y2: [u32; 16], y3: [u32; 16], y4: [u32; 16]) -> State
+    ensures { λ r. ⌜ r ≡ inside.mixed q y1 y2 y3 y4 ⌝ }
+{
+    let q1 = round_f(q, y1);
+    let q2 = round_g(q1, y2);
+    let q3 = round_h(q2, y3);
+    let q4 = round_i(q3, y4);
+    increased(q4, q)
+}
+
 // The registers after the block w.
 pub fn compress(w: [u32; 16], q: State) -> State
     ensures { λ r. ⌜ r ≡ spec.compressed w q ⌝ }
 {
-    let q1 = round_f(q, sums(w, ORDER_1, CONSTANTS_1));
-    let q2 = round_g(q1, sums(w, ORDER_2, CONSTANTS_2));
-    let q3 = round_h(q2, sums(w, ORDER_3, CONSTANTS_3));
-    let q4 = round_i(q3, sums(w, ORDER_4, CONSTANTS_4));
-    increased(q4, q)
+    mixed(
+        q,
+        sums(w, ORDER_1, CONSTANTS_1),
+        sums(w, ORDER_2, CONSTANTS_2),
+        sums(w, ORDER_3, CONSTANTS_3),
+        sums(w, ORDER_4, CONSTANTS_4),
+    )
+}
+
+// The registers after a message of eight bytes, given as two words. Its one block ends with the length,
+// 64 bits, and most of the sums are constants here.
+pub fn compress_eight(first: u32, second: u32) -> State
+    ensures { λ r. ⌜ r ≡ spec.registers (spec.bytes4 first ++ spec.bytes4 second) ⌝ }
+{
+    let w = [first, second, 128, 0, 0, 0, 0, 0, 0, 0, 0, 0, 0, 0, 64, 0];
+    let q = State {
+        a: 0x67452301,
+        b: 0xefcdab89,
+        c: 0x98badcfe,
+        d: 0x10325476,
+    };
+    mixed(
+        q,
+        sums(w, ORDER_1, CONSTANTS_1),
+        sums(w, ORDER_2, CONSTANTS_2),
+        sums(w, ORDER_3, CONSTANTS_3),
+        sums(w, ORDER_4, CONSTANTS_4),
+    )
 }

@@ -5,10 +5,9 @@ use mathlib.Core.List.{List, [], _∷_, _++_}
 use native.Mathlib.Omega.{arith}
 use lib.Bits.{bitXor, xor-shr, xor-mod}
 use Rattle.block.specs.Lists.{upTo}
-use Rattle.block.specs.Padding.{word, little, paddedByte, paddedWord, blockAt, absorbed}
 use Rattle.md5.specs.declared.State.{State}
-use Rattle.md5.specs.Md5.{bytes4, compressed, initial, registers}
-use Rattle.password.specs.Password.{fold, numberAfter, numberOf, bytesOf}
+use Rattle.md5.specs.Md5.{bytes4}
+use Rattle.password.specs.Password.{fold, numberAfter, numberOf}
 use Rattle.password.specs.Inside.{high4}
 
 -- Eight bytes as a number: the first four, then the last four.
@@ -41,17 +40,3 @@ fold-registers a b c d =
 -- The fold of the digest that the registers hold.
 abbrev pub foldedOf : State → ℕ
 foldedOf q = numberOf (fold (bytes4 (q .a) ++ bytes4 (q .b) ++ bytes4 (q .c) ++ bytes4 (q .d)))
-
--- The one block of a message of 8 bytes, whose words are x and y.
-abbrev pub blockOf : ℕ → ℕ → List ℕ
-blockOf x y = x ∷ y ∷ 128 ∷ 0 ∷ 0 ∷ 0 ∷ 0 ∷ 0 ∷ 0 ∷ 0 ∷ 0 ∷ 0 ∷ 0 ∷ 0 ∷ 64 ∷ 0 ∷ []
-
-pub registers-eight : (p : ℕ)
-    → compressed
-    (blockOf
-    (word little (p / 2 ^ 56 % 256) (p / 2 ^ 48 % 256) (p / 2 ^ 40 % 256) (p / 2 ^ 32 % 256))
-    (word little (p / 2 ^ 24 % 256) (p / 2 ^ 16 % 256) (p / 2 ^ 8 % 256) (p % 256)))
-    initial
-    ≡ registers (bytesOf p)
-unfolding registers absorbed blockAt paddedWord paddedByte upTo
-registers-eight p = refl

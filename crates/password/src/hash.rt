@@ -8,7 +8,7 @@ ghost use Rattle.md5.specs.Md5 as Md5;
 ghost use Rattle.password.specs.Password as spec;
 ghost use Rattle.password.specs.Inside.{high4};
 use md5::State;
-use md5::compress::compress;
+use md5::compress::compress_eight;
 use md5::digest::registers;
 
 // A register's four bytes as a number, first byte most significant. MD5 writes the low-order byte first.
@@ -42,8 +42,7 @@ fn low_word(b0: u64, b1: u64, b2: u64, b3: u64) -> u32
     (b0 + b1 * 256 + b2 * 65536 + b3 * 16777216) as u32
 }
 
-// The password one count up: the folded hash of the 8 bytes. They are the first two words of the one
-// block, which ends with their length, 64 bits.
+// The password one count up: the folded hash of the 8 bytes.
 pub fn step(p: u64) -> u64
     ensures { λ r. ⌜ r ≡ spec.hash spec.md5 (spec.bytesOf p) ⌝ }
 {
@@ -54,12 +53,5 @@ pub fn step(p: u64) -> u64
         (p >> 32) % 256,
     );
     let second = low_word((p >> 24) % 256, (p >> 16) % 256, (p >> 8) % 256, p % 256);
-    let w = [first, second, 128, 0, 0, 0, 0, 0, 0, 0, 0, 0, 0, 0, 64, 0];
-    let q = State {
-        a: 0x67452301,
-        b: 0xefcdab89,
-        c: 0x98badcfe,
-        d: 0x10325476,
-    };
-    folded(compress(w, q))
+    folded(compress_eight(first, second))
 }
