@@ -7,7 +7,12 @@ use native.Mathlib.Numerals.{add-one}
 use lib.ListN.{length, getD, take, drop, set, length-append, length-drop, drop-of-length-le}
 use lib.Seq.{take-all, take-at, drop-at, drop-drop, drop-cons, set-at, set-split, take-suc, append-snoc, length-take-le}
 use borrow.Rule.Slice.PartMut.{midOf, putMid}
-use Rattle.text.specs.Front.{front, Put}
+use mathlib.Core.Bool.{Bool, true, false, cond}
+use lib.Dec.{leb}
+use borrow.Author.Tests.{le-leb, lt-leb}
+use Rattle.refusal.specs.declared.Refusal.{Refusal}
+use Rattle.refusal.specs.declared.Written.{Written}
+use Rattle.text.specs.Front.{front, Put, leaves, Writes}
 use Rattle.text.specs.Digits.{digitOf, digitsOf}
 
 pub length-front : (t b : List ℕ) → length t ≤ length b → length (front t b) ≡ length b
@@ -24,6 +29,9 @@ front-front t u b = sym (append-assoc t u _) ∙ ap (λ (l : List ℕ). (t ++ u)
 -- the part from n on, lent as `&mut b[n..]`, is what lies past n
 pub rest-lent : (n : ℕ) (b : List ℕ) → midOf n (length b - n) b ≡ drop n b
 rest-lent n b = take-all (length b - n) (drop n b) (simp length-drop (omega arith))
+
+pub length-rest-lent : (n : ℕ) (b : List ℕ) → length (midOf n (length b - n) b) ≡ length b - n
+length-rest-lent n b = ap length (rest-lent n b) ∙ length-drop n b
 
 -- and it comes back past n
 pub rest-back : (n : ℕ) (b ys : List ℕ) → putMid n (length b - n) b ys ≡ take n b ++ ys
@@ -61,3 +69,27 @@ spelt base b i r h =
     ∙ append-snoc (digitsOf base i (r / base)) (digitOf (r % base)) (drop (suc i) b)
     ∙ ap (λ (l : List ℕ). digitsOf base i (r / base) ++ l)
     (sym (ap (drop i) (set-split b i (digitOf (r % base)) h) ∙ drop-at (take i b) (digitOf (r % base) ∷ drop (suc i) b) i (length-take-le i b (omega arith))))
+
+-- a text that was put where it had room was written
+pub put-writes : (t b b′ : List ℕ) (n : ℕ) → length t ≤ length b → Put t b b′ n → Writes t b b′ (Written.Wrote n)
+put-writes t b b′ n h p =
+    (ap Written.Wrote (p .0) ∙ sym (ap (λ (e : Bool). cond e (Written.Wrote (length t)) (Written.Refused Refusal.BufferShort)) (le-leb (length t) (length b) h)), p .1)
+
+-- a text without room is refused, and the buffer is as it was
+pub short-writes : (t b : List ℕ) → length b < length t → Writes t b b (Written.Refused Refusal.BufferShort)
+short-writes t b h =
+    (sym (ap (λ (e : Bool). cond e (Written.Wrote (length t)) (Written.Refused Refusal.BufferShort)) (lt-leb (length t) (length b) h)), refl)
+
+-- a writer's promise fixes its answer and what it leaves
+pub writes-determined : (t b b₁ b₂ : List ℕ) (r₁ r₂ : Written) → Writes t b b₁ r₁ → Writes t b b₂ r₂ → (r₁ ≡ r₂) × (b₁ ≡ b₂)
+writes-determined t b b₁ b₂ r₁ r₂ p q =
+    let same = p .0 ∙ sym (q .0) in
+    (same, p .1 ∙ ap (λ (r : Written). leaves r t b) same ∙ sym (q .1))
+
+-- the bytes that a writer reports are the text
+pub written-front : (t b b′ : List ℕ) (n : ℕ) → Writes t b b′ (Written.Wrote n) → take n b′ ≡ t
+written-front t b b′ n w = ap (take n) (w .1) ∙ take-at t (drop (length t) b) n (count (leb (length t) (length b)) (w .0))
+  where
+    count : (e : Bool) → Written.Wrote n ≡ cond e (Written.Wrote (length t)) (Written.Refused Refusal.BufferShort) → length t ≡ n
+    count true q = cc
+    count false q = let z : _≡_ {A = ℕ} 0 1 = cc in absurd (omega arith)
