@@ -3,9 +3,10 @@ pub mod Kinds
 pub mod Scan
 pub mod Digits
 pub mod Front
+pub mod Quoted
 pub mod Tests
 pub mod KindLaws
 pub mod ScanLaws
 pub mod DigitLaws
 pub mod FrontLaws
-pub mod Quoted
+pub mod Determined
