@@ -1,6 +1,16 @@
-// The kinds of a byte, and a letter's lower case. ASCII throughout: a byte over 127 is of no kind.
+// The kinds of a byte, and the two cases of a letter. ASCII throughout: a byte over 127 is a token's byte and of no other kind.
 ghost use mathlib.Core.Path.{_≡_};
-ghost use Rattle.text.specs.Kinds.{isLetter, isDigit, lowerOf};
+ghost use Rattle.text.specs.Kinds.{isLetter, isDigit, isWhite, isBlank, inToken, ofKind, lowerOf, upperOf};
+
+// What a run of bytes is made of.
+pub enum Kind {
+    White, // of a reply: space, tab, carriage return, newline
+    Blank, // of a challenge: space, tab
+    Token, // of a challenge: all but space, tab, newline
+    Digit,
+    Letter,
+    LetterOrDigit,
+}
 
 pub fn is_letter(b: u8) -> bool
     ensures { λ r. ⌜ r ≡ isLetter b ⌝ }
@@ -14,6 +24,37 @@ pub fn is_digit(b: u8) -> bool
     (b'0' <= b) & (b <= b'9')
 }
 
+pub fn is_white(b: u8) -> bool
+    ensures { λ r. ⌜ r ≡ isWhite b ⌝ }
+{
+    (b == b' ') | (b == b'\t') | (b == b'\r') | (b == b'\n')
+}
+
+pub fn is_blank(b: u8) -> bool
+    ensures { λ r. ⌜ r ≡ isBlank b ⌝ }
+{
+    (b == b' ') | (b == b'\t')
+}
+
+pub fn in_token(b: u8) -> bool
+    ensures { λ r. ⌜ r ≡ inToken b ⌝ }
+{
+    !((b == b' ') | (b == b'\t') | (b == b'\n'))
+}
+
+pub fn of_kind(kind: Kind, b: u8) -> bool
+    ensures { λ r. ⌜ r ≡ ofKind kind b ⌝ }
+{
+    match kind {
+        Kind::White => is_white(b),
+        Kind::Blank => is_blank(b),
+        Kind::Token => in_token(b),
+        Kind::Digit => is_digit(b),
+        Kind::Letter => is_letter(b),
+        Kind::LetterOrDigit => is_letter(b) | is_digit(b),
+    }
+}
+
 // An upper-case letter's lower case; any other byte as it is.
 pub fn lower(b: u8) -> u8
     ensures { λ r. ⌜ r ≡ lowerOf b ⌝ }
@@ -25,4 +66,17 @@ pub fn lower(b: u8) -> u8
         return b;
     }
     b + 32
+}
+
+// A lower-case letter's upper case; any other byte as it is.
+pub fn upper(b: u8) -> u8
+    ensures { λ r. ⌜ r ≡ upperOf b ⌝ }
+{
+    if b < b'a' {
+        return b;
+    }
+    if b'z' < b {
+        return b;
+    }
+    b - 32
 }

@@ -1,0 +1,63 @@
+-- Laws of a text at the front of a buffer: two texts one after the other, and a text that grows byte by byte.
+use Prim.Native.Nat.{ℕ, suc, _+_, _-_, _/_, _%_, _≤_, _<_}
+use mathlib.Core.Path.{_≡_, refl, sym, _∙_, ap, ap₂}
+use mathlib.Core.List.{List, [], _∷_, _++_, append-assoc, append-nil}
+use native.Mathlib.Omega.{arith}
+use native.Mathlib.Numerals.{add-one}
+use lib.ListN.{length, getD, take, drop, set, length-append, length-drop, drop-of-length-le}
+use lib.Seq.{take-all, take-at, drop-at, drop-drop, drop-cons, set-at, set-split, take-suc, append-snoc, length-take-le}
+use borrow.Rule.Slice.PartMut.{midOf, putMid}
+use Rattle.text.specs.Front.{front, Put}
+use Rattle.text.specs.Digits.{digitOf, digitsOf}
+
+pub length-front : (t b : List ℕ) → length t ≤ length b → length (front t b) ≡ length b
+length-front t b h = simp (length-append, length-drop) (omega arith)
+
+-- past a text at the front lies what lay there before
+pub drop-front : (t b : List ℕ) → drop (length t) (front t b) ≡ drop (length t) b
+drop-front t b = drop-at t (drop (length t) b) (length t) refl
+
+-- a text at the front, then another at the front of the rest, is both at the front
+pub front-front : (t u b : List ℕ) → t ++ front u (drop (length t) b) ≡ front (t ++ u) b
+front-front t u b = sym (append-assoc t u _) ∙ ap (λ (l : List ℕ). (t ++ u) ++ l) (drop-drop (length u) (length t) b ∙ ap (λ (n : ℕ). drop n b) (sym (length-append t u)))
+
+-- the part from n on, lent as `&mut b[n..]`, is what lies past n
+pub rest-lent : (n : ℕ) (b : List ℕ) → midOf n (length b - n) b ≡ drop n b
+rest-lent n b = take-all (length b - n) (drop n b) (simp length-drop (omega arith))
+
+-- and it comes back past n
+pub rest-back : (n : ℕ) (b ys : List ℕ) → putMid n (length b - n) b ys ≡ take n b ++ ys
+rest-back n b ys =
+    ap (λ (l : List ℕ). take n b ++ (ys ++ l)) (drop-of-length-le (drop n b) {i = length b - n} (simp length-drop (omega arith)))
+    ∙ ap (λ (l : List ℕ). take n b ++ l) (append-nil ys)
+
+-- the same for the counts: t, then u into the rest that is lent, is both
+pub then-put : (t u b b₁ ys : List ℕ) (n m : ℕ) → Put t b b₁ n → Put u (midOf n (length b₁ - n) b₁) ys m → Put (t ++ u) b (putMid n (length b₁ - n) b₁ ys) (n + m)
+then-put t u b b₁ ys n m p q =
+    (simp length-append (omega (arith, p .0, q .0)), rest-back n b₁ ys ∙ ap₂ (λ (l r : List ℕ). l ++ r) kept put ∙ front-front t u b)
+  where
+    kept : take n b₁ ≡ t
+    kept = ap₂ (λ (k : ℕ) (l : List ℕ). take k l) (p .0) (p .1) ∙ take-at t (drop (length t) b) (length t) refl
+
+    put : ys ≡ front u (drop (length t) b)
+    put =
+        q .1
+        ∙ ap (front u) (rest-lent n b₁ ∙ ap₂ (λ (k : ℕ) (l : List ℕ). drop k l) (p .0) (p .1) ∙ drop-front t b)
+
+-- one byte more of t
+pub copied : (t b : List ℕ) (i : ℕ) → i < length t → length t ≤ length b → set (take i t ++ drop i b) i (getD t i 0) ≡ take (i + 1) t ++ drop (i + 1) b
+copied t b i h g =
+    ap (λ (l : List ℕ). set (take i t ++ l) i (getD t i 0)) (drop-cons b i 0 (omega arith))
+    ∙ set-at (take i t) (getD b i 0) (drop (suc i) b) (getD t i 0) i (length-take-le i t (omega arith))
+    ∙ sym (append-snoc (take i t) (getD t i 0) (drop (suc i) b))
+    ∙ ap (λ (l : List ℕ). l ++ drop (suc i) b) (sym (take-suc t i 0 h))
+    ∙ ap (λ (k : ℕ). take k t ++ drop k b) (sym (add-one i))
+
+-- one digit more of r, from the right
+pub spelt : (base : ℕ) (b : List ℕ) (i r : ℕ) → i < length b → digitsOf base (i + 1) r ++ drop (i + 1) b ≡ digitsOf base i (r / base) ++ drop i (set b i (digitOf (r % base)))
+unfolding digitsOf
+spelt base b i r h =
+    ap (λ (k : ℕ). digitsOf base k r ++ drop k b) (add-one i)
+    ∙ append-snoc (digitsOf base i (r / base)) (digitOf (r % base)) (drop (suc i) b)
+    ∙ ap (λ (l : List ℕ). digitsOf base i (r / base) ++ l)
+    (sym (ap (drop i) (set-split b i (digitOf (r % base)) h) ∙ drop-at (take i b) (digitOf (r % base) ∷ drop (suc i) b) i (length-take-le i b (omega arith))))
