@@ -3,6 +3,7 @@ pub mod Kinds
 pub mod Scan
 pub mod Digits
 pub mod Front
+pub mod Tests
 pub mod ScanLaws
-pub mod FrontLaws
 pub mod DigitLaws
+pub mod FrontLaws

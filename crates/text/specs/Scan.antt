@@ -1,8 +1,12 @@
 -- How far bytes of one kind go, and the tokens of a reply.
 use Prim.Native.Nat.{ℕ, suc}
-use mathlib.Core.Bool.{Bool, cond}
+use mathlib.Core.Bool.{Bool, cond, not}
 use mathlib.Core.List.{List, [], _∷_, _++_}
 use Rattle.text.specs.Kinds.{isWhite}
+
+-- a byte that is no white space
+abbrev pub isSolid : ℕ → Bool
+isSolid b = not (isWhite b)
 
 -- how many bytes at the start of s, one after the other, pass the test
 unfoldable pub runOf : (ℕ → Bool) → List ℕ → ℕ
@@ -22,3 +26,8 @@ parted met (b ∷ s) = cond (isWhite b) (piece met ++ parted [] s) (parted (met 
 -- 01, Six words and hex: the tokens of a reply, in order
 abbrev pub tokens : List ℕ → List (List ℕ)
 tokens s = parted [] s
+
+-- 01, Six words and hex: "the bytes left without white space"
+unfoldable pub unspaced : List ℕ → List ℕ
+unspaced [] = []
+unspaced (b ∷ s) = cond (isWhite b) (unspaced s) (b ∷ unspaced s)
