@@ -1,0 +1,2 @@
+-- The definitions that the promises of `reply` cite, and its laws.
+pub mod Writing
