@@ -1,8 +1,8 @@
 -- The dictionary as packed words, and the place of a word in it.
-use Prim.Native.Nat.{ℕ, suc, _+_, _*_, _-_, _^_}
+use Prim.Native.Nat.{ℕ, suc, _+_, _*_, _-_, _/_, _%_, _^_}
 use mathlib.Core.Bool.{cond}
 use mathlib.Core.List.{List, [], _∷_, map}
-use lib.Dec.{eqb}
+use lib.Dec.{eqb, ltb}
 use lib.ListN.{length, getD}
 use Rattle.dictionary.specs.declared.Found.{Found}
 use Rattle.dictionary.specs.Words.{words}
@@ -16,6 +16,17 @@ numberFrom v (c ∷ cs) = numberFrom (v * 256 + c) cs
 -- so below 2 ^ 24 and those of four above it: the paper's two runs are one.
 unfoldable pub packed : List ℕ → ℕ
 packed w = numberFrom 0 w * 256 ^ (3 - length w)
+
+-- three digits without the zeros at their end
+unfoldable pub unfilled : ℕ → ℕ → ℕ → List ℕ
+unfilled a b c = cond (eqb b 0) (a ∷ []) (cond (eqb c 0) (a ∷ b ∷ []) (a ∷ b ∷ c ∷ []))
+
+-- the letters of a packed word: its three digits to base 256 below 2 ^ 24, without the zeros at the end, and four from there
+unfoldable pub lettersOf : ℕ → List ℕ
+lettersOf v =
+    cond (ltb v (2 ^ 24))
+    (unfilled (v / 65536) (v / 256 % 256) (v % 256))
+    (v / 16777216 ∷ v / 65536 % 256 ∷ v / 256 % 256 ∷ v % 256 ∷ [])
 
 unfoldable pub dictionary : List ℕ
 dictionary = map packed words

@@ -4,6 +4,7 @@ ghost use Prim.Native.Nat.{_<_};
 ghost use lib.ListN.{length};
 ghost use Rattle.dictionary.specs.Dictionary.{packedAt, foundOf};
 ghost use Rattle.dictionary.specs.Inside.{Between};
+
 mod rows;
 
 // The place of a word, or that it is none of the 2,048.

@@ -1,57 +1,42 @@
+-- `last_up_to` meets its promise. The invariant: what is at `low` is up to the word, or `low` is the first place, and what is
+-- at `high` is over it, or `high` is the end. The measure is what lies between.
+use Prim.Native.Nat.{ℕ, _+_, _-_, _≤_, _<_}
+use mathlib.Core.Path.{_≡_, subst}
+use native.Mathlib.Omega.{arith}
+use borrow.Author.Needs.{needs}
+use lib.ListN.{length, getD}
 use Rattle.dictionary.proofs.last_up_to.Statement.{statement}
 use Rattle.dictionary.proofs.last_up_to.Tie as tie
-use Rattle.dictionary.proofs.last_up_to.Reads as reads
-use Rattle.dictionary.proofs.last_up_to.Lts as lts
 
 abbrev Inv-loop : tie.InvT-loop
-Inv-loop words word low₀ high₀ low high = ?
+Inv-loop words word low₀ high₀ low high =
+    (low < high) ×
+    (high ≤ length words) ×
+    (0 < low → getD words low 0 ≤ word) ×
+    (high < length words → word < getD words high 0)
 
 abbrev μ-loop : tie.MeasureT-loop
-μ-loop words word low₀ high₀ low high = ?
+μ-loop words word low₀ high₀ low high = high - low
 
--- src/lib.rt:45:5
 loop-holds : tie.Need-loop-holds Inv-loop μ-loop
-loop-holds c = ?
+loop-holds c = (search needs, search needs, (λ h. omega arith), (λ h. omega arith))
 
--- src/lib.rt:45:11
-add-loop : tie.Need-add-loop Inv-loop μ-loop
-add-loop c = ?
-
--- src/lib.rt:46:29
-sub-middle : tie.Need-sub-middle Inv-loop μ-loop
-sub-middle c = ?
-
--- src/lib.rt:46:22
-add-middle : tie.Need-add-middle Inv-loop μ-loop
-add-middle c = ?
-
--- src/lib.rt:47:12
-mul-if1 : tie.Need-mul-if1 Inv-loop μ-loop
-mul-if1 c = ?
-
--- src/lib.rt:47:12
-shared-slice-read-if1 : tie.Need-shared-slice-read-if1 Inv-loop μ-loop
-shared-slice-read-if1 c = ?
-
--- src/lib.rt:45:5
-loop-less : tie.Need-loop-less Inv-loop μ-loop
-loop-less c = ?
-
--- src/lib.rt:45:5
 loop-again : tie.Need-loop-again Inv-loop μ-loop
-loop-again c = ?
+loop-again c = (omega arith, omega arith, (λ _. c .if1 .taken), c .before .before .before .loop .inv .3)
 
--- src/lib.rt:45:5
-loop-less-2 : tie.Need-loop-less-2 Inv-loop μ-loop
-loop-less-2 c = ?
-
--- src/lib.rt:45:5
 loop-again-2 : tie.Need-loop-again-2 Inv-loop μ-loop
-loop-again-2 c = ?
+loop-again-2 c = (omega arith, omega arith, c .before .before .before .loop .inv .2, (λ _. c .if1 .left))
 
--- src/lib.rt:39:1
 returns : tie.Need-returns Inv-loop μ-loop
-returns c = ?
+returns c =
+    let inv = c .before .loop .inv in
+    record {
+      within = omega arith;
+      low = inv .2;
+      high = λ h.
+          let met : c .before .loop .high ≡ c .before .loop .low + 1 = omega arith in
+          rw met at inv .3 (omega arith);
+    }
 
 pub last-up-to-spec : {M : Type 1} → statement M
 last-up-to-spec =
@@ -60,13 +45,13 @@ last-up-to-spec =
     Inv-loop
     μ-loop
     loop-holds
-    add-loop
-    sub-middle
-    add-middle
-    mul-if1
-    shared-slice-read-if1
-    loop-less
+    (λ c. omega arith)
+    (λ c. omega arith)
+    (λ c. omega arith)
+    (λ c. omega arith)
+    (λ c. omega arith)
+    (λ c. omega arith)
     loop-again
-    loop-less-2
+    (λ c. omega arith)
     loop-again-2
     returns)
