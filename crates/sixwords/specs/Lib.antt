@@ -1,0 +1,2 @@
+-- The definitions that the promises of `sixwords` cite, its laws and its examples.
+pub mod Places

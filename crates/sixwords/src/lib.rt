@@ -1,0 +1,44 @@
+// A 64-bit number as six places of the dictionary, and back: document 01, 'Six words and hex'.
+ghost use mathlib.Core.Path.{_≡_};
+ghost use Rattle.sixwords.specs.Places.{pairSum, placesOf, numberOf};
+
+// The number that six places stand for, or that the pair sum after it is wrong.
+pub enum Number {
+    Is(u64),
+    SumWrong,
+}
+
+// The six places of a number, most significant first.
+pub fn places_of(p: u64) -> [usize; 6]
+    ensures { λ r. ⌜ r ≡ placesOf p ⌝ }
+{
+    let sum = pair_sum(p) % 4;
+    [
+        (p >> 53) as usize,
+        ((p >> 42) % 2048) as usize,
+        ((p >> 31) % 2048) as usize,
+        ((p >> 20) % 2048) as usize,
+        ((p >> 9) % 2048) as usize,
+        (p % 512 * 4 + sum) as usize,
+    ]
+}
+
+// The number of six places. A place from 2,048 on is a wrong sum.
+pub fn number_of(places: [usize; 6]) -> Number
+    ensures { λ r. ⌜ r ≡ numberOf places ⌝ }
+{
+    Number::SumWrong
+}
+
+// The 32 pairs of bits of a number, added.
+fn pair_sum(p: u64) -> u64
+    ensures { λ r. ⌜ r ≡ pairSum p ⌝ }
+{
+    let mut rest = p;
+    let mut sum = 0;
+    for _ in 0..32 {
+        sum += rest % 4;
+        rest = rest / 4;
+    }
+    sum
+}
