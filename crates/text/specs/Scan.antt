@@ -1,12 +1,8 @@
 -- How far bytes of one kind go, and the tokens of a reply.
 use Prim.Native.Nat.{ℕ, suc}
-use mathlib.Core.Bool.{Bool, cond, not}
+use mathlib.Core.Bool.{Bool, cond}
 use mathlib.Core.List.{List, [], _∷_, _++_}
 use Rattle.text.specs.Kinds.{isWhite}
-
--- a byte that is no white space
-abbrev pub isSolid : ℕ → Bool
-isSolid b = not (isWhite b)
 
 -- how many bytes at the start of s, one after the other, pass the test
 unfoldable pub runOf : (ℕ → Bool) → List ℕ → ℕ

@@ -5,11 +5,11 @@ use mathlib.Core.Bool.{Bool, true, false, cond, not, _&&_}
 use mathlib.Core.List.{List, [], _∷_, _++_, append-assoc, append-nil}
 use native.Mathlib.Omega.{arith}
 use native.Mathlib.Numerals.{add-one}
-use lib.ListN.{length, getD, take, drop, drop-of-length-le}
+use lib.ListN.{length, getD, take, drop, length-take, drop-of-length-le}
 use lib.Seq.{drop-cons, append-snoc}
 use Rattle.text.specs.Tests.{every, either, cases}
-use Rattle.text.specs.Kinds.{isWhite}
-use Rattle.text.specs.Scan.{isSolid, runOf, piece, parted, tokens}
+use Rattle.text.specs.Kinds.{isWhite, isSolid}
+use Rattle.text.specs.Scan.{runOf, piece, parted, tokens}
 
 -- a run past the end is empty
 pub run-past : (test : ℕ → Bool) (s : List ℕ) (i : ℕ) → length s ≤ i → runOf test (drop i s) ≡ 0
@@ -71,3 +71,31 @@ parted-run met (b ∷ s) = go (parted-run (met ++ b ∷ []) s) (isWhite b) refl
 -- a text is its first run of solid bytes, if any, and the tokens after it
 pub tokens-run : (s : List ℕ) → tokens s ≡ piece (take (runOf isSolid s) s) ++ tokens (drop (runOf isSolid s) s)
 tokens-run s = parted-run [] s
+
+-- what lies past white space starts with a token
+pub solid-after : (s : List ℕ) → runOf isWhite s < length s → 0 < runOf isSolid (drop (runOf isWhite s) s)
+unfolding runOf
+solid-after [] h = h
+solid-after (b ∷ s) h = go (solid-after s) (isWhite b) refl h
+  where
+    go : (runOf isWhite s < length s → 0 < runOf isSolid (drop (runOf isWhite s) s)) → (t : Bool) → isWhite b ≡ t →
+        cond t (suc (runOf isWhite s)) 0 < suc (length s) → 0 < runOf isSolid (drop (cond t (suc (runOf isWhite s)) 0) (b ∷ s))
+    go ih true e l = ih (omega arith)
+    go ih false e l = rw e (omega arith)
+
+-- a text of white space has no token
+pub tokens-none : (s : List ℕ) → length s ≤ runOf isWhite s → tokens s ≡ []
+unfolding parted
+tokens-none s h = tokens-white s ∙ ap tokens (drop-of-length-le s h)
+
+-- and any other has one
+pub tokens-some : (s : List ℕ) → runOf isWhite s < length s → 0 < length (tokens s)
+tokens-some s h =
+    let rest = drop (runOf isWhite s) s in
+    rw (tokens-white s, tokens-run rest)
+    (piece-some (take (runOf isSolid rest) rest) (tokens (drop (runOf isSolid rest) rest))
+    (simp length-take (omega (arith, solid-after s h, run-within isSolid rest))))
+  where
+    piece-some : (t : List ℕ) (ts : List (List ℕ)) → 0 < length t → 0 < length (piece t ++ ts)
+    piece-some [] ts h = absurd (omega arith)
+    piece-some (b ∷ t) ts h = omega arith
