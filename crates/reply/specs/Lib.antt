@@ -1,2 +1,4 @@
 -- The definitions that the promises of `reply` cite, and its laws.
 pub mod Writing
+pub mod Reading
+pub mod Inside

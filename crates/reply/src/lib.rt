@@ -1,6 +1,10 @@
 // Replies: a password written as hex or as six words, and read from what was typed. Document 01, 'Six words and hex'.
-use refusal::{Refusal, Written};
+use refusal::Refusal;
+use refusal::Written;
 use text::digits::spell;
+
+mod tokens;
+
 ghost use Rattle.reply.specs.Writing.{hexOf};
 ghost use Rattle.text.specs.Front.{Writes};
 

@@ -42,8 +42,10 @@ digit-read d h = either (λ (b : ℕ). digitValue b ≡ d) (ltb d 10) (λ e. low
   where
     low : d < 10 → digitValue (48 + d) ≡ d
     low g = value-digit (48 + d) (ap₂ (λ (a b : Bool). a && b) (le-leb 48 (48 + d) (omega arith)) (le-leb (48 + d) 57 (omega arith))) ∙ omega arith
+
     kept : 10 ≤ d → lowerOf (87 + d) ≡ 87 + d
     kept g = rw (le-leb 65 (87 + d) (omega arith), lt-leb (87 + d) 90 (omega arith))
+
     high : 10 ≤ d → digitValue (87 + d) ≡ d
     high g =
         let k = kept g in
@@ -62,6 +64,7 @@ digit-written b h = cases (isDigit b) digit (λ e. cases (leb 97 (lowerOf b) && 
         ∙ ap (λ (t : Bool). cond t (48 + (b - 48)) (87 + (b - 48))) (lt-ltb (b - 48) 10 (omega arith))
         ∙ back
         ∙ sym (ap (λ (t : Bool). cond (t && leb b 90) (b + 32) b) (lt-leb 65 b (omega arith)))
+
     letter : isDigit b ≡ false → (leb 97 (lowerOf b) && leb (lowerOf b) 102) ≡ true → digitOf (digitValue b) ≡ lowerOf b
     letter e f =
         let from = leb-true 97 (lowerOf b) (both (leb 97 (lowerOf b)) (leb (lowerOf b) 102) f .0) in
@@ -69,6 +72,7 @@ digit-written b h = cases (isDigit b) digit (λ e. cases (leb 97 (lowerOf b) && 
         ap digitOf (value-letter b e from to)
         ∙ ap (λ (t : Bool). cond t (48 + (lowerOf b - 87)) (87 + (lowerOf b - 87))) (le-ltb (lowerOf b - 87) 10 (omega arith))
         ∙ omega arith
+
     none : isDigit b ≡ false → (leb 97 (lowerOf b) && leb (lowerOf b) 102) ≡ false → digitOf (digitValue b) ≡ lowerOf b
     none e f = absurd (omega (arith, value-none b e f))
 
@@ -81,12 +85,14 @@ hex-value b = cases (isDigit b) digit (λ e. cases (leb 97 (lowerOf b) && leb (l
         let to = leb-true b 57 (both (leb 48 b) (leb b 57) e .1) in
         ap (λ (t : Bool). t || (leb 97 (lowerOf b) && leb (lowerOf b) 102)) e
         ∙ sym (ap (λ (v : ℕ). ltb v 16) (value-digit b e) ∙ lt-ltb (b - 48) 16 (omega arith))
+
     letter : isDigit b ≡ false → (leb 97 (lowerOf b) && leb (lowerOf b) 102) ≡ true → isHex b ≡ ltb (digitValue b) 16
     letter e f =
         let from = leb-true 97 (lowerOf b) (both (leb 97 (lowerOf b)) (leb (lowerOf b) 102) f .0) in
         let to = leb-true (lowerOf b) 102 (both (leb 97 (lowerOf b)) (leb (lowerOf b) 102) f .1) in
         ap₂ (λ (t u : Bool). t || u) e f
         ∙ sym (ap (λ (v : ℕ). ltb v 16) (value-letter b e from to) ∙ lt-ltb (lowerOf b - 87) 16 (omega arith))
+
     none : isDigit b ≡ false → (leb 97 (lowerOf b) && leb (lowerOf b) 102) ≡ false → isHex b ≡ ltb (digitValue b) 16
     none e f = ap₂ (λ (t u : Bool). t || u) e f ∙ sym (ap (λ (v : ℕ). ltb v 16) (value-none b e f))
 

@@ -60,6 +60,7 @@ parted-run met (b ∷ s) = go (parted-run (met ++ b ∷ []) s) (isWhite b) refl
   where
     n : ℕ
     n = runOf isSolid s
+
     go : parted (met ++ b ∷ []) s ≡ piece (met ++ b ∷ [] ++ take n s) ++ tokens (drop n s) → (t : Bool) → isWhite b ≡ t →
         cond t (piece met ++ parted [] s) (parted (met ++ b ∷ []) s) ≡
         piece (met ++ take (cond (not t) (suc n) 0) (b ∷ s)) ++ tokens (drop (cond (not t) (suc n) 0) (b ∷ s))
