@@ -1,3 +1,4 @@
 -- Lemmas that the proofs of this crate share.
 pub mod Letters
 pub mod Scanned
+pub mod HexDigits

@@ -3,6 +3,7 @@ use refusal::Refusal;
 use refusal::Written;
 use text::digits::spell;
 
+mod hex;
 mod tokens;
 
 ghost use Rattle.reply.specs.Writing.{hexOf};
