@@ -16,7 +16,7 @@ use Rattle.dictionary.specs.Words.{codes, wordsIn, lines, words}
 use Rattle.dictionary.specs.Dictionary.{numberFrom, packed, dictionary, packedAt, foundOf}
 use Rattle.dictionary.specs.Order.{both}
 use Rattle.dictionary.specs.Laws.{dictionary-count, packed-order, at-place, no-place}
-use Rattle.dictionary.specs.Inside.{rowOf, headsOf, Between}
+use Rattle.dictionary.specs.Inside.{rowOf, headsOf, Span}
 
 -- a line's words
 abbrev wordsOf : String → List (List ℕ)
@@ -90,68 +90,70 @@ head-at i h =
     ap packedAt e
 
 -- x is no word of the dictionary if a search for it ends beside it
-pub not-beside : (x k : ℕ) → Between dictionary x k → (packedAt k ≡ x → ⊥) → foundOf x ≡ Found.Nothing
+pub not-beside : (x k : ℕ) → Span dictionary x k 1 → (packedAt k ≡ x → ⊥) → foundOf x ≡ Found.Nothing
 not-beside x k b f = no-place x (λ i h e. go i h e (decLt i k) (decLt k i) (decLt (k + 1) i))
   where
     go : (i : ℕ) → i < 2048 → packedAt i ≡ x → Dec (i < k) → Dec (k < i) → Dec (k + 1 < i) → ⊥
     go i h e (yes l) d g =
-        let w = rw dictionary-count at (b .within) in
+        let w : k < 2048 = omega (arith, rw dictionary-count at (b .within)) in
         let o = packed-order i k l w in
-        let v = b .low (omega arith) in
+        let v = b .above (omega arith) in
         omega arith
     go i h e (no l) (no m) g = f (ap packedAt (omega arith) ∙ e)
     go i h e (no l) (yes m) (yes n) =
-        let v = b .high (rw dictionary-count (omega arith)) in
+        let v = b .under (rw dictionary-count (omega arith)) in
         let o = packed-order (k + 1) i n h in
         omega arith
     go i h e (no l) (yes m) (no n) =
-        let v = b .high (rw dictionary-count (omega arith)) in
+        let v = b .under (rw dictionary-count (omega arith)) in
         let same : packedAt (k + 1) ≡ packedAt i = ap packedAt (omega arith) in
         omega arith
 
 -- a search in the heads and then in a row is a search in the dictionary
-pub search-rows : (x i j : ℕ) → Between headsOf x i → Between (rowOf i) x j → Between dictionary x (i * 32 + j)
+pub search-rows : (x i j : ℕ) → Span headsOf x i 1 → Span (rowOf i) x j 1 → Span dictionary x (i * 32 + j) 1
 search-rows x i j b c =
     record {
       within = rw dictionary-count (omega (arith, row, column));
-      low = λ h. low h (decLt 0 j);
-      high = λ h. high (rw dictionary-count at h) (decLt (j + 1) 32);
+      above = λ h. low h (decLt 0 j);
+      under = λ h. high (rw dictionary-count at h) (decLt (j + 1) 32);
     }
   where
     row : i < 64
-    row = rw headsOf-count at (b .within)
+    row = omega (arith, rw headsOf-count at (b .within))
 
     column : j < 32
-    column = rw (rowOf-count i row) at (c .within)
+    column = omega (arith, rw (rowOf-count i row) at (c .within))
 
     low : 0 < i * 32 + j → Dec (0 < j) → packedAt (i * 32 + j) ≤ x
-    low h (yes l) = rw (row-at i j column) at (c .low l)
+    low h (yes l) = rw (row-at i j column) at (c .above l)
     low h (no l) =
         let same : i * 32 ≡ i * 32 + j = omega (arith, row, column) in
-        rw (head-at i row, same) at (b .low (omega (arith, row, column)))
+        rw (head-at i row, same) at (b .above (omega (arith, row, column)))
 
     high : i * 32 + j + 1 < 2048 → Dec (j + 1 < 32) → x < packedAt (i * 32 + j + 1)
     high h (yes l) =
         let same : i * 32 + (j + 1) ≡ i * 32 + j + 1 = omega (arith, row, column) in
-        rw (row-at i (j + 1) l, same) at (c .high (rw (rowOf-count i row) l))
+        rw (row-at i (j + 1) l, same) at (c .under (rw (rowOf-count i row) l))
     high h (no l) =
         let next : i + 1 < 64 = omega (arith, row, column) in
         let same : (i + 1) * 32 ≡ i * 32 + j + 1 = omega (arith, row, column) in
-        rw (head-at (i + 1) next, same) at (b .high (rw headsOf-count next))
+        rw (head-at (i + 1) next, same) at (b .under (rw headsOf-count next))
 
 -- The two searches, one after the other, and what they then find: the word, or another.
-module _ (x i j : ℕ) (heads row : List ℕ) (h : heads ≡ headsOf) (r : row ≡ rowOf i) (a : Between heads x i) (b : Between row x j) where
-  ends : Between dictionary x (i * 32 + j)
+module _ (x i j : ℕ) (heads row : List ℕ) (h : heads ≡ headsOf) (r : row ≡ rowOf i) (a : Span heads x i 1) (b : Span row x j 1) where
+  ends : Span dictionary x (i * 32 + j) 1
   ends = search-rows x i j (rw h at a) (rw r at b)
 
   here : getD row j 0 ≡ packedAt (i * 32 + j)
   here =
-      let inside : i < 64 = rw (headsOf-count) at (rw h at a .within) in
-      rw r (row-at i j (rw (rowOf-count i inside) at (rw r at b .within)))
+      let inside : i < 64 = omega (arith, rw headsOf-count at ((rw h at a) .within)) in
+      let column : j < 32 = omega (arith, rw (rowOf-count i inside) at ((rw r at b) .within)) in
+      rw r (row-at i j column)
 
   pub ends-at : getD row j 0 ≡ x → Found.At (i * 32 + j) ≡ foundOf x
   ends-at e =
-      sym (at-place (i * 32 + j) (rw dictionary-count at (ends .within))) ∙ ap foundOf (sym here ∙ e)
+      let place : i * 32 + j < 2048 = omega (arith, rw dictionary-count at (ends .within)) in
+      sym (at-place (i * 32 + j) place) ∙ ap foundOf (sym here ∙ e)
 
   pub ends-beside : (getD row j 0 ≡ x → ⊥) → Found.Nothing ≡ foundOf x
   ends-beside f = sym (not-beside x (i * 32 + j) ends (λ e. f (here ∙ e)))

@@ -15,9 +15,9 @@ rowOf i = cond (ltb i 64) (map packed (wordsIn (codes (getD lines i "")))) (repl
 unfoldable pub headsOf : List ℕ
 headsOf = map (λ l. getD (map packed (wordsIn (codes l))) 0 0) lines
 
--- Where a search in a list stops, in whatever order the list is: k is a place of it, x is not below what stands at k, unless
--- k is the first place, and is below what stands behind k, unless k is the last
-pub record Between (xs : List ℕ) (x k : ℕ) : Type 0 where
-  pub within : k < length xs
-  pub low : 0 < k → getD xs k 0 ≤ x
-  pub high : k + 1 < length xs → x < getD xs (k + 1) 0
+-- A span of a list in which a search for x goes on, in whatever order the list is: x is not below what stands at the span's
+-- start, unless that is the list's, and is below what stands behind its end, unless that is the list's
+pub record Span (xs : List ℕ) (x low width : ℕ) : Type 0 where
+  pub within : low + width ≤ length xs
+  pub above : 0 < low → getD xs low 0 ≤ x
+  pub under : low + width < length xs → x < getD xs (low + width) 0

@@ -1,9 +1,8 @@
 // The 2,048 words of RFC 2289, Appendix D, packed: the word at a place, and the place of a word.
 ghost use mathlib.Core.Path.{_≡_};
-ghost use Prim.Native.Nat.{_<_};
-ghost use lib.ListN.{length};
+ghost use Prim.Native.Nat.{_*_, _<_};
 ghost use Rattle.dictionary.specs.Dictionary.{packedAt, foundOf};
-ghost use Rattle.dictionary.specs.Inside.{Between};
+ghost use Rattle.dictionary.specs.Inside.{Span};
 
 mod rows;
 
@@ -26,9 +25,10 @@ pub fn place_of(word: u32) -> Found
     ensures { λ r. ⌜ r ≡ foundOf word ⌝ }
 {
     let heads = rows::heads();
-    let i = last_up_to(&heads, word);
+    let half = upper_half(&heads, word, 0, 32);
+    let i = last_of_32(&heads, word, half);
     let row = rows::row(i);
-    let j = last_up_to(&row, word);
+    let j = last_of_32(&row, word, 0);
     if row[j] == word {
         Found::At(i * 32 + j)
     } else {
@@ -36,20 +36,27 @@ pub fn place_of(word: u32) -> Found
     }
 }
 
-// A place of `words` with what is up to `word` at it, or the first place, and what is over `word` behind it, or nothing.
-fn last_up_to(words: &[u32], word: u32) -> usize
-    requires { ⌜ 0 < length (now words) ⌝ }
-    ensures { λ r. ⌜ Between (now (words .entry)) word r ⌝ }
+// From a span of 32 words to the one that is not over `word`. Steps in a row, and not a loop, become moves without branches.
+fn last_of_32(words: &[u32], word: u32, low: usize) -> usize
+    requires { ⌜ Span (now words) word low 32 ⌝ }
+    ensures { λ r. ⌜ Span (now (words .entry)) word r 1 ⌝ }
 {
-    let mut low = 0;
-    let mut high = words.len();
-    while low + 1 < high {
-        let middle = low + (high - low) / 2;
-        if words[middle] <= word {
-            low = middle;
-        } else {
-            high = middle;
-        }
+    let a = upper_half(words, word, low, 16);
+    let b = upper_half(words, word, a, 8);
+    let c = upper_half(words, word, b, 4);
+    let d = upper_half(words, word, c, 2);
+    upper_half(words, word, d, 1)
+}
+
+// The half of a span in which the search goes on: the upper one, unless its first word is over `word`.
+fn upper_half(words: &[u32], word: u32, low: usize, half: usize) -> usize
+    requires { ⌜ (0 < half) × Span (now words) word low (2 * half) ⌝ }
+    ensures { λ r. ⌜ Span (now (words .entry)) word r half ⌝ }
+{
+    let middle = low + half;
+    if words[middle] <= word {
+        middle
+    } else {
+        low
     }
-    low
 }

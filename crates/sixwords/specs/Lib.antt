@@ -1,2 +1,3 @@
 -- The definitions that the promises of `sixwords` cite, its laws and its examples.
 pub mod Places
+pub mod Laws
