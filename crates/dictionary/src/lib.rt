@@ -54,9 +54,5 @@ fn upper_half(words: &[u32], word: u32, low: usize, half: usize) -> usize
     ensures { λ r. ⌜ Span (now (words .entry)) word r half ⌝ }
 {
     let middle = low + half;
-    if words[middle] <= word {
-        middle
-    } else {
-        low
-    }
+    if words[middle] <= word { middle } else { low }
 }

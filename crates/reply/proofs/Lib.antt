@@ -2,3 +2,5 @@
 pub mod Letters
 pub mod Scanned
 pub mod HexDigits
+pub mod Spelling
+pub mod Looked

@@ -1,7 +1,7 @@
 -- Nothing outside this crate rests on these: what its private functions answer.
 use Prim.Native.Nat.{ℕ, zero, suc, _+_}
 use mathlib.Core.Bool.{Bool, true, false, cond, _&&_}
-use mathlib.Core.List.{List, [], _∷_, map}
+use mathlib.Core.List.{List, [], _∷_, _++_, map}
 use lib.Dec.{eqb}
 use lib.ListN.{length, take, drop, replicate}
 use Rattle.refusal.specs.declared.Refusal.{Refusal}
@@ -41,3 +41,8 @@ sixOf ts = cond (sixWords ts) (record { are = true; words = map packedToken ts }
 unfoldable pub hexAfter : ℕ → ℕ → List ℕ → Reading
 hexAfter n v s =
     cond (eqb (n + length s) 16 && every isHex s) (Reading.Password (numberAfter 16 v s)) (Reading.Refused Refusal.ReplyUnread)
+
+-- words with a space after each
+unfoldable pub ended : List (List ℕ) → List ℕ
+ended [] = []
+ended (w ∷ ws) = (w ++ 32 ∷ []) ++ ended ws

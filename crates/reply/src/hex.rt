@@ -1,5 +1,6 @@
 // A reply read as hex.
-use refusal::{Reading, Refusal};
+use refusal::Reading;
+use refusal::Refusal;
 use text::digits::digit_value;
 use text::kinds::is_white;
 ghost use mathlib.Core.Path.{_≡_};

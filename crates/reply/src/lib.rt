@@ -5,6 +5,7 @@ use text::digits::spell;
 
 mod hex;
 mod tokens;
+mod words;
 
 ghost use Rattle.reply.specs.Writing.{hexOf};
 ghost use Rattle.text.specs.Front.{Writes};

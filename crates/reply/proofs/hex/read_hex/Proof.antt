@@ -25,9 +25,13 @@ abbrev μ-loop : tie.MeasureT-loop
 loop-again : tie.Need-loop-again Inv-loop μ-loop
 loop-again c =
     let at = c .before .before .before .before .loop in
-    let s = c .before .before .before .before .before .before .args .s .now in
-    (omega arith, at .inv .1, at .inv .2, at .inv .3
-    ∙ ap (hexAfter (at .n) (at .value)) (white-byte s (at .i) (c .before .before .before .loop-test .taken) (sym (c .before .is-white .ensures) ∙ c .if1 .taken)))
+    let s = c .before .before .before .before .before .before .args .s .now in (
+      omega arith,
+      at .inv .1,
+      at .inv .2,
+      at .inv .3
+          ∙ ap (hexAfter (at .n) (at .value)) (white-byte s (at .i) (c .before .before .before .loop-test .taken) (sym (c .before .is-white .ensures) ∙ c .if1 .taken)),
+    )
 
 returns : tie.Need-returns Inv-loop μ-loop
 returns c =
@@ -62,10 +66,14 @@ loop-again-2 : tie.Need-loop-again-2 Inv-loop μ-loop
 loop-again-2 c =
     let at = c .before .before .before .before .before .before .before .loop in
     let s = c .before .before .before .before .before .before .before .before .before .args .s .now in
-    let d = c .before .before .digit-value .result in
-    (omega arith, omega arith, hex-grows (at .value) d (at .n) (at .inv .2) (omega arith), at .inv .3
-    ∙ ap (hexAfter (at .n) (at .value)) (solid-byte s (at .i) (c .before .before .before .before .before .before .loop-test .taken) (sym (c .before .before .before .before .is-white .ensures) ∙ c .before .before .before .if1 .left))
-    ∙ hex-digit (at .n) (at .value) (getD s (at .i) 0) d (unspaced (drop (at .i + 1) s)) (c .before .before .digit-value .ensures) (omega arith))
+    let d = c .before .before .digit-value .result in (
+      omega arith,
+      omega arith,
+      hex-grows (at .value) d (at .n) (at .inv .2) (omega arith),
+      at .inv .3
+          ∙ ap (hexAfter (at .n) (at .value)) (solid-byte s (at .i) (c .before .before .before .before .before .before .loop-test .taken) (sym (c .before .before .before .before .is-white .ensures) ∙ c .before .before .before .if1 .left))
+          ∙ hex-digit (at .n) (at .value) (getD s (at .i) 0) d (unspaced (drop (at .i + 1) s)) (c .before .before .digit-value .ensures) (omega arith),
+    )
 
 returns-3 : tie.Need-returns-3 Inv-loop μ-loop
 returns-3 c =
