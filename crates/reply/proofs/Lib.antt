@@ -4,3 +4,4 @@ pub mod Scanned
 pub mod HexDigits
 pub mod Spelling
 pub mod Looked
+pub mod Spacing

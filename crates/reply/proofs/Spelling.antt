@@ -4,11 +4,11 @@ use native.Mathlib.Omega.{arith}
 use mathlib.Core.Path.{_≡_, refl, sym, _∙_, ap, ap₂}
 use mathlib.Core.List.{List, [], _∷_, _++_}
 use native.Mathlib.Numerals.{add-one}
-use lib.Dec.{eqb}
+use lib.Dec.{eqb, ltb}
 use lib.ListN.{length, getD, drop, set, length-append}
 use lib.Seq.{drop-cons, set-at, append-snoc}
 use borrow.Author.Tests.{lt-ltb, le-ltb, eq-eqb, ne-eqb, eqb-true, eqb-false}
-use Rattle.text.specs.Tests.{cases}
+use Rattle.text.specs.Tests.{either, cases}
 use Rattle.text.specs.Front.{front, Put}
 use Rattle.dictionary.specs.Dictionary.{unfilled, lettersOf}
 
@@ -40,6 +40,14 @@ module _ (v : ℕ) (h : v < 16777216) where
   second-letter e =
       cases (eqb (v % 256) 0) (λ f. omega (arith, ap length (two-letters e (eqb-true (v % 256) 0 f))))
       (λ f. omega (arith, ap length (three-letters e (eqb-false (v % 256) 0 f))))
+
+pub few-letters : (v : ℕ) → length (lettersOf v) ≤ 4
+unfolding lettersOf unfilled
+few-letters v =
+    either (λ (l : List ℕ). length l ≤ 4) (ltb v (2 ^ 24))
+    (λ e. either (λ (l : List ℕ). length l ≤ 4) (eqb (v / 256 % 256) 0) (λ f. omega arith)
+    (λ f. either (λ (l : List ℕ). length l ≤ 4) (eqb (v % 256) 0) (λ g. omega arith) (λ g. omega arith)))
+    (λ e. omega arith)
 
 -- bytes stored one after the other from the front
 put-to : (t u b b′ : List ℕ) (n : ℕ) → t ≡ u → Put u b b′ n → Put t b b′ n

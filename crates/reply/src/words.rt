@@ -9,7 +9,7 @@ use sixwords::number_of;
 use sixwords::places_of;
 ghost use mathlib.Core.Path.{_≡_};
 ghost use mathlib.Core.List.{List, [], _∷_, _++_, map};
-ghost use Prim.Native.Nat.{ℕ, _+_, _≤_};
+ghost use Prim.Native.Nat.{ℕ, _+_, _≤_, _<_};
 ghost use lib.ListN.{length};
 ghost use Rattle.text.specs.Front.{Put};
 ghost use Rattle.dictionary.specs.Dictionary.{packedAt, lettersOf, foundOf};
@@ -93,4 +93,41 @@ fn put_letters(buf: &mut [u8], word: u32) -> usize
     }
     buf[2] = (word % 256) as u8;
     3
+}
+
+// A packed word and a space at the front of the buffer.
+fn put_word(buf: &mut [u8], word: u32) -> usize
+    requires { ⌜ length (lettersOf word) < length (now buf) ⌝ }
+    ensures { λ r. ⌜ Put (lettersOf word ++ 32 ∷ []) (now (buf .entry)) (now (buf .exit)) r ⌝ }
+{
+    let n = put_letters(buf, word);
+    buf[n] = b' ';
+    n + 1
+}
+
+// How many bytes six packed words take with one space between.
+pub fn length_of(words: [u32; 6]) -> usize
+    ensures { λ r. ⌜ r ≡ length (spaced (map lettersOf words)) ⌝ }
+{
+    let mut n = 0;
+    let mut k = 0;
+    while k < 6 {
+        n += letters(words[k]) + 1;
+        k += 1;
+    }
+    n - 1
+}
+
+// Six packed words with one space between at the front of the buffer.
+pub fn put_words(buf: &mut [u8], words: [u32; 6]) -> usize
+    requires { ⌜ length (spaced (map lettersOf words)) ≤ length (now buf) ⌝ }
+    ensures { λ r. ⌜ Put (spaced (map lettersOf words)) (now (buf .entry)) (now (buf .exit)) r ⌝ }
+{
+    let mut at = 0;
+    let mut k = 0;
+    while k < 5 {
+        at += put_word(&mut buf[at..], words[k]);
+        k += 1;
+    }
+    at + put_letters(&mut buf[at..], words[5])
 }

@@ -29,6 +29,9 @@ front-front t u b = sym (append-assoc t u _) ∙ ap (λ (l : List ℕ). (t ++ u)
 pub rest-lent : (n : ℕ) (b : List ℕ) → midOf n (length b - n) b ≡ drop n b
 rest-lent n b = take-all (length b - n) (drop n b) (simp length-drop (omega arith))
 
+pub length-rest-lent : (n : ℕ) (b : List ℕ) → length (midOf n (length b - n) b) ≡ length b - n
+length-rest-lent n b = ap length (rest-lent n b) ∙ length-drop n b
+
 -- and it comes back past n
 pub rest-back : (n : ℕ) (b ys : List ℕ) → putMid n (length b - n) b ys ≡ take n b ++ ys
 rest-back n b ys =
