@@ -5,3 +5,4 @@ pub mod HexDigits
 pub mod Spelling
 pub mod Looked
 pub mod Spacing
+pub mod Answered

@@ -2,3 +2,4 @@
 pub mod Writing
 pub mod Reading
 pub mod Inside
+pub mod WordLaws
