@@ -3,3 +3,4 @@ pub mod Writing
 pub mod Reading
 pub mod Inside
 pub mod WordLaws
+pub mod Laws
