@@ -4,3 +4,4 @@ pub mod Reading
 pub mod Inside
 pub mod WordLaws
 pub mod Laws
+pub mod Examples
