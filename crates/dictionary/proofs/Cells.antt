@@ -1,19 +1,19 @@
 -- The rows are the dictionary's words, and where the search ends.
-use Prim.Native.Nat.{ℕ, zero, suc, _+_, _*_, _/_, _%_, _≤_, _<_}
+use Prim.Native.Nat.{ℕ, zero, suc, _+_, _*_, _≤_, _<_}
 use Prim.Native.String.{String}
 use native.Mathlib.Omega.{arith}
 use native.Mathlib.Decide.{decLt}
 use native.Mathlib.Nat.{le-of-suc-le-suc, not-suc-le-zero}
 use mathlib.Core.Path.{_≡_, refl, sym, _∙_, ap}
-use mathlib.Core.Bool.{Bool, true, false, cond, _&&_}
-use mathlib.Core.List.{List, [], _∷_, _++_, map, flatten, map-append}
-use lib.Dec.{T, eqb, ltb, eqb→eq}
-use lib.ListN.{length, getD, replicate, length-map, getD-replicate, List·getD-map, List·getD-append, List·getD-eq-default}
+use mathlib.Core.Bool.{Bool, true, _&&_}
+use mathlib.Core.List.{List, [], _∷_, map, flatten, map-append}
+use lib.Dec.{T, eqb, eqb→eq}
+use lib.ListN.{length, getD, length-map, getD-replicate, List·getD-append, List·getD-eq-default}
 use lib.Seq.{getD-append-add}
 use borrow.Author.Tests.{lt-ltb, le-ltb}
 use Rattle.dictionary.specs.declared.Found.{Found}
 use Rattle.dictionary.specs.Words.{codes, wordsIn, lines, words}
-use Rattle.dictionary.specs.Dictionary.{numberFrom, packed, dictionary, packedAt, foundOf}
+use Rattle.dictionary.specs.Dictionary.{packed, dictionary, packedAt, foundOf}
 use Rattle.dictionary.specs.Order.{both}
 use Rattle.dictionary.specs.Laws.{dictionary-count, packed-order, at-place, no-place}
 use Rattle.dictionary.specs.Inside.{rowOf, Span}

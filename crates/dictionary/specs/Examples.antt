@@ -29,4 +29,3 @@ pub examples-hold : _≡_ {A = List (List ℕ × Found)}
     (map (λ e. (e .0, Found.At (e .1))) examples)
 unfolding examples codes wordsIn lines words flatten numberFrom packed dictionary placeFrom foundOf
 examples-hold = refl
-

@@ -3,7 +3,6 @@ use Prim.Native.Nat.{_+_, _*_, _/_, _%_, _<_}
 use mathlib.Core.Path.{_≡_, _∙_, ap}
 use native.Mathlib.Omega.{arith}
 use borrow.Author.Needs.{needs}
-use lib.ListN.{getD}
 use Rattle.dictionary.specs.Dictionary.{packedAt}
 use Rattle.dictionary.proofs.Cells.{row-at}
 use Rattle.dictionary.proofs.word_at.Statement.{statement}
