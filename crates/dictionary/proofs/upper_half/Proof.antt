@@ -17,12 +17,10 @@ lower : (x low half : ℕ) → Span x low (2 * half) → x < packedAt (low + hal
 lower x low half s h = record { within = omega (arith, s .within); above = s .above; under = λ _. h }
 
 returns : tie.Need-returns
-returns c =
-    upper _ _ _ (c .before .before .pre) (rw (c .before .word-at .ensures) at (c .if1 .taken))
+returns c = upper _ _ _ (c .before .before .pre) (omega (arith, c .before .word-at .ensures, c .if1 .taken))
 
 returns-2 : tie.Need-returns-2
-returns-2 c =
-    lower _ _ _ (c .before .before .pre) (rw (c .before .word-at .ensures) at (c .if1 .left))
+returns-2 c = lower _ _ _ (c .before .before .pre) (omega (arith, c .before .word-at .ensures, c .if1 .left))
 
 pub upper-half-spec : {M : Type 1} → statement M
 upper-half-spec =
