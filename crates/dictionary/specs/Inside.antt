@@ -1,23 +1,19 @@
--- Nothing outside this crate rests on these: the rows that the table is cut into.
+-- Nothing outside this crate rests on these: the rows that the table is cut into, and the spans of the search.
 use Prim.Native.Nat.{ℕ, _+_, _≤_, _<_}
 use mathlib.Core.Bool.{cond}
 use mathlib.Core.List.{List, map}
 use lib.Dec.{ltb}
-use lib.ListN.{length, getD, replicate}
+use lib.ListN.{getD, replicate}
 use Rattle.dictionary.specs.Words.{codes, wordsIn, lines}
-use Rattle.dictionary.specs.Dictionary.{packed}
+use Rattle.dictionary.specs.Dictionary.{packed, packedAt}
 
--- the packed words of a line of the dictionary; 32 zeros where there is no such line
+-- the packed words of a line of the dictionary; 8 zeros where there is no such line
 unfoldable pub rowOf : ℕ → List ℕ
-rowOf i = cond (ltb i 64) (map packed (wordsIn (codes (getD lines i "")))) (replicate 32 0)
+rowOf i = cond (ltb i 256) (map packed (wordsIn (codes (getD lines i "")))) (replicate 8 0)
 
--- the first word of each line
-unfoldable pub headsOf : List ℕ
-headsOf = map (λ l. getD (map packed (wordsIn (codes l))) 0 0) lines
-
--- A span of a list in which a search for x goes on, in whatever order the list is: x is not below what stands at the span's
--- start, unless that is the list's, and is below what stands behind its end, unless that is the list's
-pub record Span (xs : List ℕ) (x low width : ℕ) : Type 0 where
-  pub within : low + width ≤ length xs
-  pub above : 0 < low → getD xs low 0 ≤ x
-  pub under : low + width < length xs → x < getD xs (low + width) 0
+-- The places low to low + width - 1, among which a search for x goes on: x is not below the word at low, unless that is the
+-- first, and is below the word behind the span, unless the dictionary ends there.
+pub record Span (x low width : ℕ) : Type 0 where
+  pub within : low + width ≤ 2048
+  pub above : 0 < low → packedAt low ≤ x
+  pub under : low + width < 2048 → x < packedAt (low + width)

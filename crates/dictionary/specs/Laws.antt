@@ -6,15 +6,15 @@ use native.Mathlib.Nat.{le-of-suc-le-suc, not-suc-le-zero}
 use mathlib.Core.Path.{_≡_, refl, sym, _∙_, ap}
 use mathlib.Core.Logic.{_↔_}
 use mathlib.Core.Bool.{Bool, true, false, cond, _&&_}
-use mathlib.Core.List.{List, [], _∷_, map, flatten}
-use lib.Dec.{T, leb, ltb, eqb, leb→le, eqb→eq}
-use lib.ListN.{length, getD, take, drop, length-take, length-drop, List·getD-map, length-map}
+use mathlib.Core.List.{List, [], _∷_, flatten}
+use lib.Dec.{T, leb, eqb, leb→le, eqb→eq}
+use lib.ListN.{length, getD, take, drop, List·getD-map, length-map}
 use lib.Seq.{getD-take, getD-drop}
-use borrow.Author.Tests.{lt-ltb, le-ltb, eq-eqb, ne-eqb, eqb-true, eqb-false}
+use borrow.Author.Tests.{lt-ltb, le-ltb, eq-eqb, ne-eqb, eqb-true}
 use Rattle.dictionary.specs.declared.Found.{Found}
 use Rattle.dictionary.specs.Words.{codes, wordsIn, lines, words}
 use Rattle.dictionary.specs.Dictionary.{numberFrom, packed, unfilled, lettersOf, dictionary, wordAt, packedAt, placeFrom, foundOf}
-use Rattle.dictionary.specs.Runs.{before, TwoRuns}
+use Rattle.dictionary.specs.Runs.{TwoRuns}
 use Rattle.dictionary.specs.Order.{both, each, each-at, rising, rising-at, inOrder, inOrder-at}
 
 -- one to three letters; four letters; upper-case letters only
@@ -24,9 +24,9 @@ isShort w = leb 1 (length w) && leb (length w) 3
 abbrev isLong : List ℕ → Bool
 isLong w = eqb (length w) 4
 
-abbrev isUpper : List ℕ → Bool
-isUpper [] = true
-isUpper (c ∷ cs) = (leb 65 c && leb c 90) && isUpper cs
+abbrev allUpper : List ℕ → Bool
+allUpper [] = true
+allUpper (c ∷ cs) = (leb 65 c && leb c 90) && allUpper cs
 
 words-count : length words ≡ 2048
 unfolding words lines codes wordsIn flatten
@@ -40,7 +40,7 @@ all-long : T (each isLong (drop 571 words))
 unfolding words lines codes wordsIn flatten
 all-long = tt
 
-all-upper : T (each isUpper words)
+all-upper : T (each allUpper words)
 unfolding words lines codes wordsIn flatten
 all-upper = tt
 
@@ -172,6 +172,9 @@ found-place x i e =
     let h : r .0 < 2048 = rw dictionary-count at (r .2) in
     (omega arith, ap packedAt (sym same) ∙ r .3)
 
+pub found-exactly : (x i : ℕ) → (foundOf x ≡ Found.At i) ↔ ((i < 2048) × (packedAt i ≡ x))
+found-exactly x i = (found-place x i, (λ h. ap foundOf (sym (h .1)) ∙ at-place i (h .0)))
+
 -- one to four letters, each a byte other than 0
 pub record Spelt (w : List ℕ) : Type 0 where
   pub some : 0 < length w
@@ -227,17 +230,17 @@ letters-packed (a ∷ b ∷ c ∷ d ∷ e ∷ w) s = let h = s .few in absurd (o
 pub packed-injective : (v w : List ℕ) → Spelt v → Spelt w → packed v ≡ packed w → v ≡ w
 packed-injective v w s t e = sym (letters-packed v s) ∙ ap lettersOf e ∙ letters-packed w t
 
-upper-at : (w : List ℕ) → T (isUpper w) → (k : ℕ) → k < length w → (65 ≤ getD w k 0) × (getD w k 0 ≤ 90)
+upper-at : (w : List ℕ) → T (allUpper w) → (k : ℕ) → k < length w → (65 ≤ getD w k 0) × (getD w k 0 ≤ 90)
 upper-at [] t k h = absurd (not-suc-le-zero h)
 upper-at (c ∷ cs) t zero h =
-    let b = both (leb 65 c && leb c 90) (isUpper cs) t in
+    let b = both (leb 65 c && leb c 90) (allUpper cs) t in
     let d = both (leb 65 c) (leb c 90) (b .0) in
     (leb→le 65 c (d .0), leb→le c 90 (d .1))
-upper-at (c ∷ cs) t (suc k) h = upper-at cs (both (leb 65 c && leb c 90) (isUpper cs) t .1) k (le-of-suc-le-suc h)
+upper-at (c ∷ cs) t (suc k) h = upper-at cs (both (leb 65 c && leb c 90) (allUpper cs) t .1) k (le-of-suc-le-suc h)
 
 -- the words are written in upper-case letters
 pub word-upper : (i : ℕ) → i < 2048 → (k : ℕ) → k < length (wordAt i) → (65 ≤ getD (wordAt i) k 0) × (getD (wordAt i) k 0 ≤ 90)
-word-upper i h = upper-at (wordAt i) (each-at isUpper words all-upper i (rw words-count h))
+word-upper i h = upper-at (wordAt i) (each-at allUpper words all-upper i (rw words-count h))
 
 pub word-spelt : (i : ℕ) → i < 2048 → Spelt (wordAt i)
 word-spelt i h =
@@ -265,3 +268,18 @@ found-word w s i = (there, found)
 
     found : (i < 2048) × (wordAt i ≡ w) → foundOf (packed w) ≡ Found.At i
     found h = ap foundOf (ap packed (sym (h .1)) ∙ sym (packed-at i)) ∙ at-place i (h .0)
+
+-- and is not found exactly if it stands nowhere
+pub unknown-word : (w : List ℕ) → Spelt w → (foundOf (packed w) ≡ Found.Nothing) ↔ ((i : ℕ) → i < 2048 → wordAt i ≡ w → ⊥)
+unknown-word w s = (nowhere, unknown)
+  where
+    nowhere : foundOf (packed w) ≡ Found.Nothing → (i : ℕ) → i < 2048 → wordAt i ≡ w → ⊥
+    nowhere e i h f =
+        let there = found-word w s i .1 (h, f) in
+        let z : _≡_ {A = ℕ} 0 1 = cc in
+        omega arith
+
+    unknown : ((i : ℕ) → i < 2048 → wordAt i ≡ w → ⊥) → foundOf (packed w) ≡ Found.Nothing
+    unknown f =
+        no-place (packed w)
+        (λ i h e. f i h (packed-injective (wordAt i) w (word-spelt i h) s (sym (packed-at i) ∙ e)))

@@ -1,12 +1,12 @@
 -- A number's places read back as it, and six places are accepted exactly if they are some number's.
-use Prim.Native.Nat.{ℕ, zero, suc, _+_, _*_, _/_, _%_, _^_, _≤_, _<_}
+use Prim.Native.Nat.{ℕ, zero, suc, _+_, _*_, _/_, _%_, _^_, _<_}
 use native.Mathlib.Omega.{arith}
 use native.Mathlib.Nat.{le-of-suc-le-suc, not-suc-le-zero}
 use mathlib.Core.Path.{_≡_, refl, sym, _∙_, ap}
 use mathlib.Core.Logic.{_↔_}
 use mathlib.Core.Bool.{Bool, true, false, cond, _&&_, false≢true}
 use mathlib.Core.List.{List, [], _∷_}
-use lib.Dec.{T, eqb, ltb, ltb→lt, eqb→eq}
+use lib.Dec.{eqb, ltb}
 use lib.ListN.{length, getD}
 use borrow.Author.Tests.{lt-ltb, ltb-true, eq-eqb, eqb-true}
 use Rattle.sixwords.specs.declared.Number.{Number}
@@ -156,3 +156,10 @@ places-injective p q h k e =
 pub places-count : (p : ℕ) → length (placesOf p) ≡ 6
 unfolding placesOf
 places-count p = cut-count (whole p)
+
+pub places-all : (p : ℕ) → allPlaces (placesOf p) ≡ true
+unfolding placesOf
+places-all p = cut-places (whole p)
+
+pub place-below : (p k : ℕ) → k < 6 → getD (placesOf p) k 0 < 2048
+place-below p k h = below (placesOf p) (places-all p) k (rw (places-count p) h)

@@ -1,6 +1,5 @@
 -- `all_places` meets its promise: the six tests are the definition's.
 use borrow.Author.Needs.{needs}
-use lib.ListN.{length}
 use Rattle.sixwords.specs.Laws.{six-of}
 use Rattle.sixwords.proofs.Six.{all-six}
 use Rattle.sixwords.proofs.all_places.Statement.{statement}

@@ -2,9 +2,8 @@
 -- the pairs that are left.
 use Prim.Native.Nat.{ℕ, zero, suc, _+_, _-_, _*_, _/_, _%_, _≤_, _<_}
 use native.Mathlib.Nat.{not-suc-le-zero}
-use mathlib.Core.Path.{_≡_, refl, sym, _∙_, ap}
+use mathlib.Core.Path.{_≡_, ap}
 use native.Mathlib.Omega.{arith}
-use borrow.Author.Needs.{needs}
 use Rattle.sixwords.specs.Places.{pairs, pairSum}
 use Rattle.sixwords.proofs.pair_sum.Statement.{statement}
 use Rattle.sixwords.proofs.pair_sum.Tie as tie
