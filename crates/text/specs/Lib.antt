@@ -8,3 +8,4 @@ pub mod KindLaws
 pub mod ScanLaws
 pub mod DigitLaws
 pub mod FrontLaws
+pub mod Determined
