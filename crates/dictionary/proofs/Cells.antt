@@ -12,7 +12,8 @@ use lib.ListN.{length, getD, length-map, getD-replicate, List·getD-append, List
 use lib.Seq.{getD-append-add}
 use borrow.Author.Tests.{lt-ltb, le-ltb}
 use Rattle.dictionary.specs.declared.Found.{Found}
-use Rattle.dictionary.specs.Words.{codes, wordsIn, lines, words}
+use Rattle.text.specs.Quoted.{codes}
+use Rattle.dictionary.specs.Words.{wordsIn, lines, words}
 use Rattle.dictionary.specs.Dictionary.{packed, dictionary, packedAt, foundOf}
 use Rattle.dictionary.specs.Order.{both}
 use Rattle.dictionary.specs.Laws.{dictionary-count, packed-order, at-place, no-place}

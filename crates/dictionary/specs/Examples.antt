@@ -3,7 +3,8 @@ use Prim.Native.Nat.{ℕ}
 use mathlib.Core.Path.{_≡_, refl}
 use mathlib.Core.List.{List, [], _∷_, map, flatten}
 use Rattle.dictionary.specs.declared.Found.{Found}
-use Rattle.dictionary.specs.Words.{codes, wordsIn, lines, words}
+use Rattle.text.specs.Quoted.{codes}
+use Rattle.dictionary.specs.Words.{wordsIn, lines, words}
 use Rattle.dictionary.specs.Dictionary.{numberFrom, packed, dictionary, wordAt, placeFrom, foundOf}
 
 -- a word, and its place

@@ -4,7 +4,8 @@ use mathlib.Core.Bool.{cond}
 use mathlib.Core.List.{List, map}
 use lib.Dec.{ltb}
 use lib.ListN.{getD, replicate}
-use Rattle.dictionary.specs.Words.{codes, wordsIn, lines}
+use Rattle.text.specs.Quoted.{codes}
+use Rattle.dictionary.specs.Words.{wordsIn, lines}
 use Rattle.dictionary.specs.Dictionary.{packed, packedAt}
 
 -- the packed words of a line of the dictionary; 8 zeros where there is no such line

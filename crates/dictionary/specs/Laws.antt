@@ -12,7 +12,8 @@ use lib.ListN.{length, getD, take, drop, List·getD-map, length-map}
 use lib.Seq.{getD-take, getD-drop}
 use borrow.Author.Tests.{lt-ltb, le-ltb, eq-eqb, ne-eqb, eqb-true}
 use Rattle.dictionary.specs.declared.Found.{Found}
-use Rattle.dictionary.specs.Words.{codes, wordsIn, lines, words}
+use Rattle.text.specs.Quoted.{codes}
+use Rattle.dictionary.specs.Words.{wordsIn, lines, words}
 use Rattle.dictionary.specs.Dictionary.{numberFrom, packed, unfilled, lettersOf, dictionary, wordAt, packedAt, placeFrom, foundOf}
 use Rattle.dictionary.specs.Runs.{TwoRuns}
 use Rattle.dictionary.specs.Order.{both, each, each-at, rising, rising-at, inOrder, inOrder-at}

@@ -1,16 +1,10 @@
 -- The dictionary as RFC 2289, Appendix D prints it: 256 lines of 8 words, in the order of their places.
 use Prim.Native.Nat.{ℕ}
-use Prim.Native.Char.{code}
-use Prim.Native.String
 use Prim.Native.String.{String}
 use mathlib.Core.Bool.{cond}
 use mathlib.Core.List.{List, [], _∷_, map, flatten}
 use lib.Dec.{eqb}
-
--- a quoted text as the numbers of its characters
-unfoldable pub codes : String → List ℕ
-codes String.[] = []
-codes (String._∷_ c s) = code c ∷ codes s
+use Rattle.text.specs.Quoted.{codes}
 
 -- a letter in front of the first word of a line
 abbrev pub ahead : ℕ → List (List ℕ) → List (List ℕ)

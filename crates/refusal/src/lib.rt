@@ -1,4 +1,4 @@
-// The refusals of document 01, 'Refusal numbers', and the two answers that several crates give over them.
+// The refusals of document 01, 'Refusal numbers', and the answers that several crates give over them.
 ghost use mathlib.Core.Path.{_≡_};
 ghost use Rattle.refusal.specs.Numbers.{listingOf};
 
@@ -34,6 +34,12 @@ pub enum Refusal {
     ReplyWrongThird, // 62
     SeedSame, // 63
     LinesOutside, // 70
+}
+
+// Nothing wrong, or what is.
+pub enum Checked {
+    Good,
+    Refused(Refusal),
 }
 
 // A password as a number, first byte most significant, or why there is none.

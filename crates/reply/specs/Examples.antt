@@ -8,7 +8,8 @@ use Rattle.refusal.specs.declared.Reading.{Reading}
 use Rattle.text.specs.Tests.{every}
 use Rattle.text.specs.Scan.{runOf, parted, unspaced}
 use Rattle.text.specs.Digits.{digitsOf, numberAfter}
-use Rattle.dictionary.specs.Words.{codes, wordsIn, lines, words}
+use Rattle.text.specs.Quoted.{codes}
+use Rattle.dictionary.specs.Words.{wordsIn, lines, words}
 use Rattle.dictionary.specs.Dictionary.{numberFrom, packed, dictionary, placeFrom, foundOf}
 use Rattle.sixwords.specs.Places.{pairs, pairSum, whole, cut, placesOf, joined, allPlaces, numberOf}
 use Rattle.reply.specs.Writing.{hexOf, spacedFrom, wordsOf}

@@ -3,6 +3,7 @@ pub mod Kinds
 pub mod Scan
 pub mod Digits
 pub mod Front
+pub mod Quoted
 pub mod Tests
 pub mod KindLaws
 pub mod ScanLaws

@@ -1,7 +1,8 @@
 -- `row` meets its promise: in each arm the row's number is known, and the line of the dictionary computes to the arm's words.
 use borrow.Author.Tests.{le-ltb}
 use mathlib.Core.Path.{sym, ap}
-use Rattle.dictionary.specs.Words.{codes, wordsIn, lines}
+use Rattle.text.specs.Quoted.{codes}
+use Rattle.dictionary.specs.Words.{wordsIn, lines}
 use Rattle.dictionary.specs.Dictionary.{packed, numberFrom}
 use Rattle.dictionary.specs.Inside.{rowOf}
 use Rattle.dictionary.proofs.Passed.{beyond}

@@ -1,0 +1,25 @@
+-- `byte` meets its promise: each return is one part of the padded message.
+use borrow.Author.Needs.{needs}
+use mathlib.Core.Path.{sym}
+use native.Mathlib.Omega.{arith}
+use Rattle.block.specs.Padding.{little}
+use Rattle.block.specs.Laws.{byte-message, byte-one, byte-zero, byte-length}
+use Rattle.block.proofs.byte.Statement.{statement}
+use Rattle.block.proofs.byte.Tie as tie
+
+pub byte-spec : {M : Type 1} → statement M
+byte-spec =
+    tie.close
+    (tie.spec
+    (λ c. search needs)
+    (λ c. sym (byte-message little _ _ (c .before .if1 .taken)))
+    (λ c. sym (byte-one little _ _ (c .if2 .taken)))
+    (λ c κs. search needs)
+    (λ c. search needs)
+    (λ c. search needs)
+    (λ c. sym (byte-zero little _ _ (omega arith) (omega arith)))
+    (λ c. search needs)
+    (λ c. search needs)
+    (λ c. search needs)
+    (λ c. search needs)
+    (λ c. rw (c .before .count .ensures) (sym (byte-length little _ _ (omega arith) (omega arith)))))

@@ -1,0 +1,46 @@
+-- `compress_eight` meets its promise: its block is the one of the eight bytes.
+use Prim.Native.Nat.{ℕ, _<_, _^_}
+use mathlib.Core.Path.{_≡_, refl, sym, ap₂, _∙_}
+use mathlib.Core.List.{List, [], _∷_, _++_}
+use borrow.Author.Needs.{needs}
+use Rattle.block.specs.Lists.{upTo}
+use Rattle.block.specs.Padding.{paddedByte, paddedWord, blockAt, absorbed}
+use Rattle.md5.specs.declared.State.{State}
+use Rattle.md5.specs.Md5.{round1, round2, round3, round4, bytes4, compressed, initial, registers}
+use Rattle.md5.specs.Laws.{word-bytes4}
+use Rattle.md5.proofs.Sums.{compressed-by-sums}
+use Rattle.md5.proofs.compress.compress_eight.Statement.{statement}
+use Rattle.md5.proofs.compress.compress_eight.Tie as tie
+
+-- The one block of a message of eight bytes, whose words are x and y.
+abbrev blockOf : ℕ → ℕ → List ℕ
+blockOf x y = x ∷ y ∷ 128 ∷ 0 ∷ 0 ∷ 0 ∷ 0 ∷ 0 ∷ 0 ∷ 0 ∷ 0 ∷ 0 ∷ 0 ∷ 0 ∷ 64 ∷ 0 ∷ []
+
+registers-eight : (x y : ℕ) → x < 2 ^ 32 → y < 2 ^ 32
+    → compressed (blockOf x y) initial ≡ registers (bytes4 x ++ bytes4 y)
+unfolding registers absorbed blockAt paddedWord paddedByte upTo
+registers-eight x y h g =
+    ap₂ (λ (u v : ℕ). compressed (blockOf u v) initial) (sym (word-bytes4 x h)) (sym (word-bytes4 y g))
+
+returns : tie.Need-returns
+unfolding round1 round2 round3 round4
+returns c =
+    let start = c .before .before .before .before .before in
+    compressed-by-sums (blockOf (start .args .first) (start .args .second)) _ _ _ _ _ _
+    (c .before .before .before .before .sums .ensures)
+    (c .before .before .before .sums2 .ensures)
+    (c .before .before .sums3 .ensures)
+    (c .before .sums4 .ensures)
+    (c .mixed .ensures)
+    ∙ registers-eight (start .args .first) (start .args .second) (start .fits .first .fits) (start .fits .second .fits)
+
+pub compress-eight-spec : {M : Type 1} → statement M
+compress-eight-spec =
+    tie.close
+    (tie.spec
+    (λ c κs. search needs)
+    (λ c κs. search needs)
+    (λ c κs. search needs)
+    (λ c κs. search needs)
+    (λ c κs. search needs)
+    returns)

@@ -1,0 +1,24 @@
+// MD5 and the generator, for C.
+ghost use mathlib.Core.Path.{_≡_};
+ghost use lib.ListN.{length};
+ghost use Rattle.md5.specs.Md5.{digestOf, md5};
+ghost use Rattle.password.specs.Password as Password;
+ghost use Rattle.panel.specs.Answers.{readingRow, Reported};
+use crate::answers::LiftReading;
+use crate::answers::LiftWritten;
+use crate::answers::reading_row;
+use crate::answers::written_row;
+
+#[no_mangle]
+pub extern "C" fn lift_md5(text: &[u8], digest: &mut [u8]) -> LiftWritten
+    ensures { λ r. ⌜ Reported (digestOf (now (text .entry)) (length (now (digest .entry)))) (md5 (now (text .entry))) (now (digest .entry)) (now (digest .exit)) r ⌝ }
+{
+    written_row(md5::digest::digest(text, digest))
+}
+
+#[no_mangle]
+pub extern "C" fn lift_password(phrase: &[u8], seed: &[u8], count: u32) -> LiftReading
+    ensures { λ r. ⌜ r ≡ readingRow (Password.generated Password.md5 (now (phrase .entry)) (now (seed .entry)) count) ⌝ }
+{
+    reading_row(password::generator::generate(phrase, seed, count))
+}

@@ -1,0 +1,4 @@
+-- What the proofs of `password`'s functions share.
+pub mod Fold
+pub mod Plain
+pub mod Chain

@@ -1,0 +1,53 @@
+-- From pass-phrase to password: document 01, the section of that name, in its order.
+use Prim.Native.Nat.{ℕ, zero, suc, _+_, _*_, _/_, _%_, _^_}
+use mathlib.Core.Bool.{cond}
+use mathlib.Core.List.{List, [], _∷_, _++_, map}
+use lib.Bits.{bitXor}
+use lib.Dec.{ltb}
+use lib.ListN.{length, getD}
+use Rattle.block.specs.Lists.{upTo}
+use Rattle.refusal.specs.declared.Refusal.{Refusal}
+use Rattle.refusal.specs.declared.Reading.{Reading}
+use Rattle.refusal.specs.Checks.{unless}
+use Rattle.text.specs.Kinds.{lowerOf}
+use Rattle.md5.specs.Md5 as Md5
+use Rattle.password.specs.Checks.{phraseChecked, seedChecked}
+
+-- "byte i of the 16-byte digest is xored with byte i+8, giving 8 bytes"
+unfoldable pub fold : List ℕ → List ℕ
+fold digest = upTo 8 (λ i. bitXor (getD digest i 0) (getD digest (i + 8) 0))
+
+-- "The 8 bytes are one 64-bit number, first byte most significant": n and then the bytes s.
+unfoldable pub numberAfter : ℕ → List ℕ → ℕ
+numberAfter n [] = n
+numberAfter n (b ∷ s) = numberAfter (n * 256 + b) s
+
+abbrev pub numberOf : List ℕ → ℕ
+numberOf bytes = numberAfter 0 bytes
+
+-- The number as its 8 bytes again.
+abbrev pub bytesOf : ℕ → List ℕ
+bytesOf p =
+    (p / 2 ^ 56 % 256) ∷ (p / 2 ^ 48 % 256) ∷ (p / 2 ^ 40 % 256) ∷ (p / 2 ^ 32 % 256)
+    ∷ (p / 2 ^ 24 % 256) ∷ (p / 2 ^ 16 % 256) ∷ (p / 2 ^ 8 % 256) ∷ (p % 256) ∷ []
+
+-- The hash that an algorithm's passwords are made with: its digest, folded. There is one so far.
+pub data Algorithm : Type 0 where
+  md5 : Algorithm
+
+unfoldable pub hash : Algorithm → List ℕ → ℕ
+hash md5 m = numberOf (fold (Md5.md5 m))
+
+-- "Password at count 0: fold of MD5 of seed followed by pass-phrase", the seed "turned to lower case
+-- first"; "at count n+1: fold of MD5 of the 8 bytes at count n".
+unfoldable pub password : Algorithm → List ℕ → List ℕ → ℕ → ℕ
+password algorithm phrase seed zero = hash algorithm (map lowerOf seed ++ phrase)
+password algorithm phrase seed (suc n) = hash algorithm (bytesOf (password algorithm phrase seed n))
+
+-- "Counts are 0 to 9,999." "The generator checks 10, 11, 23, 24, 13 in that order."
+unfoldable pub generated : Algorithm → List ℕ → List ℕ → ℕ → Reading
+generated algorithm phrase seed count =
+    unless Reading.Refused (phraseChecked phrase)
+    (unless Reading.Refused (seedChecked seed)
+    (cond (ltb 9999 count) (Reading.Refused Refusal.CountHigh)
+    (Reading.Password (password algorithm phrase seed count))))

@@ -1,0 +1,8 @@
+-- One check after the other: "Checks run in the order given."
+use Rattle.refusal.specs.declared.Refusal.{Refusal}
+use Rattle.refusal.specs.declared.Checked.{Checked}
+
+-- What comes next if the check found nothing wrong; otherwise its refusal, as an answer of that kind.
+abbrev pub unless : {A : Type 0} → (Refusal → A) → Checked → A → A
+unless refused Checked.Good next = next
+unless refused (Checked.Refused why) next = refused why

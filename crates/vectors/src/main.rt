@@ -1,0 +1,53 @@
+// Prints the MD5 rows of RFC 2289, Appendix C, and the row of its parity check, as our generator and
+// writers give them: pass-phrase, seed, count, hex, six words, with tabs between. The file `stdout`
+// beside src/ has the RFC's rows.
+use libc::STDOUT_FILENO;
+use refusal::Reading;
+use refusal::Written;
+
+// What a writer put at the front of the buffer, on standard output.
+fn show(written: Written, buf: &[u8]) {
+    let Written::Wrote(n) = written else {
+        return;
+    };
+    if n <= buf.len() {
+        io::write_all(STDOUT_FILENO, &buf[..n]);
+    }
+}
+
+fn both_texts(p: u64) {
+    let mut hex = [0u8; 16];
+    let written = reply::write_hex(p, &mut hex);
+    show(written, &hex);
+    io::write_all(STDOUT_FILENO, b"\t");
+    let mut words = [0u8; 29];
+    let written = reply::write_words(p, &mut words);
+    show(written, &words);
+}
+
+fn row(phrase: &[u8], seed: &[u8], count: u32) {
+    io::write_all(STDOUT_FILENO, phrase);
+    io::write_all(STDOUT_FILENO, b"\t");
+    io::write_all(STDOUT_FILENO, seed);
+    io::write_all(STDOUT_FILENO, b"\t");
+    io::print_decimal(STDOUT_FILENO, count as u64);
+    io::write_all(STDOUT_FILENO, b"\t");
+    if let Reading::Password(p) = password::generator::generate(phrase, seed, count) {
+        both_texts(p);
+    }
+    io::write_all(STDOUT_FILENO, b"\n");
+}
+
+// The counts that Appendix C prints for each pass-phrase and seed.
+fn rows(phrase: &[u8], seed: &[u8]) {
+    row(phrase, seed, 0);
+    row(phrase, seed, 1);
+    row(phrase, seed, 99);
+}
+
+fn main() {
+    rows(b"This is a test.", b"TeSt");
+    rows(b"AbCdEfGhIjK", b"alpha1");
+    rows(b"OTP's are good", b"correct");
+    row(b"A_Valid_Pass_Phrase", b"AValidSeed", 99);
+}

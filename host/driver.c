@@ -1,0 +1,213 @@
+/* Answers replay lines through lift.h: a call a line on standard input, an
+ * answer a line on standard output. The texts that it lends end at a page
+ * that can't be read, so a read past one's end stops the program. */
+#define _DEFAULT_SOURCE
+#include <inttypes.h>
+#include <stdio.h>
+#include <stdlib.h>
+#include <string.h>
+
+#include "lend.h"
+#include "lift.h"
+
+enum { MOST_WORDS = FIELDS, MOST_NUMBER = 65535 };
+
+/* One word of a call: a number (of which a password is one), or bytes. */
+typedef struct {
+    uint64_t number;
+    const uint8_t *bytes;
+    size_t len;
+} word;
+
+/* Kinds of words: t text, p password, n number, r room. */
+typedef struct {
+    const char *name;
+    const char *kinds;
+    void (*answer)(const word *given);
+} call;
+
+static void print_hex(const uint8_t *bytes, size_t len)
+{
+    if (len == 0)
+        putchar('-');
+    for (size_t i = 0; i < len; i++)
+        printf("%02x", bytes[i]);
+}
+
+/* After a refusal every field but 31's place has to be 0. */
+static void print_reading(lift_reading r)
+{
+    bool clean = (r.refusal == 0 || r.password == 0) && (r.refusal == 31 || r.place == 0);
+    if (r.refusal == 0)
+        printf("ok %016" PRIx64, r.password);
+    else if (r.refusal == 31)
+        printf("no 31 %" PRIu32, r.place);
+    else
+        printf("no %" PRIu32, r.refusal);
+    puts(clean ? "" : " dirty");
+}
+
+/* What a writer says it wrote; none of it where that can't be. */
+static void print_lent(const uint8_t *buf, size_t written)
+{
+    print_hex(buf, written <= MOST_ROOM ? written : 0);
+}
+
+static void print_written(const uint8_t *buf, lift_written w)
+{
+    bool clean = touched_only(w.written) && (w.refusal == 0 || w.written == 0);
+    if (w.refusal == 0) {
+        printf("ok %zu ", w.written);
+        print_lent(buf, w.written);
+    } else {
+        printf("no %" PRIu32, w.refusal);
+    }
+    puts(clean ? " clean" : " dirty");
+}
+
+static void answer_md5(const word *given)
+{
+    uint8_t *digest = lent();
+    lift_written w = lift_md5(given[0].bytes, given[0].len, digest, 16);
+    if (w.refusal != 0) {
+        printf("no %" PRIu32 "\n", w.refusal);
+        return;
+    }
+    printf("ok ");
+    print_lent(digest, w.written);
+    puts(touched_only(w.written) ? "" : " dirty");
+}
+
+static void answer_gen(const word *given)
+{
+    print_reading(lift_password(given[0].bytes, given[0].len, given[1].bytes,
+                                given[1].len, (uint32_t)given[2].number));
+}
+
+static void answer_read(const word *given)
+{
+    print_reading(lift_read_reply(given[0].bytes, given[0].len));
+}
+
+static void answer_hex(const word *given)
+{
+    uint8_t *buf = lent();
+    print_written(buf, lift_write_hex(given[0].number, buf, given[1].number));
+}
+
+static void answer_words(const word *given)
+{
+    uint8_t *buf = lent();
+    print_written(buf, lift_write_words(given[0].number, buf, given[1].number));
+}
+
+static const call calls[] = {
+    {"md5", "t", answer_md5},
+    {"gen", "ttn", answer_gen},
+    {"read", "t", answer_read},
+    {"hex", "pr", answer_hex},
+    {"words", "pr", answer_words},
+};
+
+static int digit(char c)
+{
+    if (c >= '0' && c <= '9')
+        return c - '0';
+    return c >= 'a' && c <= 'f' ? c - 'a' + 10 : -1;
+}
+
+/* A decimal number up to `most`. */
+static bool take_number(const char *text, uint64_t most, word *out)
+{
+    out->number = 0;
+    for (const char *c = text; *c != '\0'; c++) {
+        if (*c < '0' || *c > '9')
+            return false;
+        out->number = out->number * 10 + (uint64_t)(*c - '0');
+        if (out->number > most)
+            return false;
+    }
+    return *text != '\0';
+}
+
+/* Sixteen hex digits. */
+static bool take_password(const char *text, word *out)
+{
+    out->number = 0;
+    for (const char *c = text; *c != '\0'; c++) {
+        if (digit(*c) < 0)
+            return false;
+        out->number = out->number << 4 | (uint64_t)digit(*c);
+    }
+    return strlen(text) == 16;
+}
+
+/* Pairs of hex digits, turned to the last bytes of field `at`. */
+static bool take_text(const char *text, int at, word *out)
+{
+    out->len = strcmp(text, "-") == 0 ? 0 : strlen(text) / 2;
+    if (out->len > FIELD || (out->len == 0 && strcmp(text, "-") != 0) ||
+        (out->len > 0 && strlen(text) % 2 != 0))
+        return false;
+    uint8_t *bytes = last_of(at, out->len);
+    for (size_t i = 0; i < out->len; i++) {
+        int high = digit(text[2 * i]), low = digit(text[2 * i + 1]);
+        if (high < 0 || low < 0)
+            return false;
+        bytes[i] = (uint8_t)(high << 4 | low);
+    }
+    out->bytes = bytes;
+    return true;
+}
+
+static bool take_word(char kind, const char *text, int at, word *out)
+{
+    switch (kind) {
+    case 'n': return take_number(text, MOST_NUMBER, out);
+    case 'r': return take_number(text, MOST_ROOM, out);
+    case 'p': return take_password(text, out);
+    default: return take_text(text, at, out);
+    }
+}
+
+/* Answers a line that is a call, and says whether it was one. */
+static bool answer_call(char *line)
+{
+    word given[MOST_WORDS];
+    char *rest = line;
+    const char *name = strsep(&rest, " ");
+    for (size_t i = 0; i < sizeof calls / sizeof *calls; i++) {
+        if (strcmp(name, calls[i].name) != 0)
+            continue;
+        const char *kinds = calls[i].kinds;
+        for (int at = 0; kinds[at] != '\0'; at++) {
+            const char *text = strsep(&rest, " ");
+            if (text == NULL || !take_word(kinds[at], text, at, &given[at]))
+                return false;
+        }
+        if (rest != NULL)
+            return false;
+        calls[i].answer(given);
+        return true;
+    }
+    return false;
+}
+
+int main(void)
+{
+    char *line = NULL;
+    size_t room = 0;
+    ssize_t len;
+    make_fields();
+    while ((len = getline(&line, &room, stdin)) > 0) {
+        if (line[len - 1] == '\n')
+            line[--len] = '\0';
+        if (len == 0 || line[0] == '#')
+            continue;
+        /* a NUL inside would hide the rest of its line */
+        if (strlen(line) != (size_t)len || !answer_call(line))
+            puts("bad");
+    }
+    free(line);
+    return ferror(stdin) || fflush(stdout) != 0 ? 1 : 0;
+}

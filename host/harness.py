@@ -1,0 +1,81 @@
+"""What the sections share: building the C programs, asking them, comparing."""
+import pathlib
+import subprocess
+
+import model
+
+ROOT = pathlib.Path(__file__).resolve().parent.parent
+BUILT = ROOT / "target" / "host"
+WARNINGS = ("-std=c11 -Wall -Wextra -Werror -pedantic -Wshadow -Wconversion -Wcast-qual "
+            "-Wstrict-prototypes -Wmissing-prototypes -Wvla").split()
+SANITIZERS = ["-g", "-fsanitize=address,undefined", "-fno-sanitize-recover=all"]
+
+# the calls that the driver knows: those of lift.h so far
+IN_C = {"md5", "gen", "read", "hex", "words"}
+
+
+class Failed(Exception):
+    """A check that does not hold, said in a line or a few."""
+
+
+def run(command, **options):
+    """What a command prints; a status that isn't 0 fails the check."""
+    words = [str(word) for word in command]
+    try:
+        done = subprocess.run(words, cwd=ROOT, timeout=1800, stdout=subprocess.PIPE,
+                              stderr=subprocess.STDOUT, **options)
+    except (OSError, subprocess.TimeoutExpired) as trouble:
+        raise Failed(f"{' '.join(words)}: {trouble}") from None
+    said = done.stdout.decode("latin-1")
+    if done.returncode != 0:
+        raise Failed(f"status {done.returncode} of {' '.join(words)}\n{said[-3000:]}")
+    return said
+
+
+def archive():
+    """The exported functions; after rt ci only crate panel is checked again."""
+    run(["rt", "staticlib", "panel"])
+    return ROOT / "target" / "staticlib" / "libpanel.a"
+
+
+def build(name, sources, library, flags):
+    """A C program linked with the archive."""
+    BUILT.mkdir(parents=True, exist_ok=True)
+    run(["gcc", *WARNINGS, *flags, "-Iinclude", *sources, library, "-ldl", "-o", BUILT / name])
+    return BUILT / name
+
+
+def call(name, *words):
+    """A call as a line: bytes as hex, numbers in decimal, a string as it is."""
+    return " ".join([name] + [model.hex_word(word) if isinstance(word, bytes) else str(word)
+                              for word in words])
+
+
+def asked(program, lines):
+    """The program's answers to the lines."""
+    said = run([program], input="".join(line + "\n" for line in lines).encode("latin-1"))
+    return said.split("\n")[:-1]
+
+
+def differences(lines, got, wanted):
+    """The lines whose two answers differ; a missing answer is one."""
+    if len(got) != len(wanted):
+        return [f"{len(wanted)} answers wanted, {len(got)} given"]
+    return [f"{line}\n    given  {g}\n    wanted {w}"
+            for line, g, w in zip(lines, got, wanted) if g != w]
+
+
+def hold_to(lines, got, wanted):
+    """Fails with the first few differences."""
+    found = differences(lines, got, wanted)
+    if found:
+        raise Failed("\n".join([f"{len(found)} of {len(lines)} differ:"] +
+                               ["  " + each[:2000] for each in found[:5]]))
+
+
+def same_as_model(program, lines):
+    """The program answers each line as the model does. Says how many were refused."""
+    wanted = model.replay("\n".join(lines))
+    hold_to(lines, asked(program, lines), wanted)
+    refused = sum(answer.startswith("no") for answer in wanted)
+    return f"{len(lines)} calls, {refused} of them refused: same answers as the model"

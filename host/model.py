@@ -1,0 +1,432 @@
+"""An independent model of the base: document 01's rules in Python.
+
+It shares no code with the proved crates: hashlib gives MD5's digest, and all
+else is written from document 01 and RFC 2289. A rule that refuses raises
+Refused. `python3 host/model.py < SCRIPT` answers a script of replay lines.
+"""
+import hashlib
+import pathlib
+import re
+import sys
+
+WORDS = (pathlib.Path(__file__).parent / "words.txt").read_text().split()
+PLACE_OF = {word: place for place, word in enumerate(WORDS)}
+
+
+class Refused(Exception):
+    """One of document 01's refusal numbers; 31 has its place too."""
+
+    def __init__(self, number, place=0):
+        super().__init__(number)
+        self.number, self.place = number, place
+
+
+def refuse_if(fault, number, place=0):
+    if fault:
+        raise Refused(number, place)
+
+
+# 01, From pass-phrase to password
+
+
+def md5(data):
+    """0 to 4,096 bytes, else 12."""
+    refuse_if(len(data) > 4096, 12)
+    return hashlib.md5(data).digest()
+
+
+def fold(digest):
+    """Byte i xor byte i+8; the 8 bytes are a number, the first most significant."""
+    return int.from_bytes(digest[:8], "big") ^ int.from_bytes(digest[8:], "big")
+
+
+def hashed_once(password):
+    """The password at the next count."""
+    return fold(md5(password.to_bytes(8, "big")))
+
+
+def check_phrase(phrase):
+    """10 to 63 bytes of any value."""
+    refuse_if(len(phrase) < 10, 10)
+    refuse_if(len(phrase) > 63, 11)
+
+
+def check_seed(seed):
+    """1 to 16 ASCII letters and digits; the length is looked at first."""
+    refuse_if(not 1 <= len(seed) <= 16, 23)
+    refuse_if(not re.fullmatch(rb"[A-Za-z0-9]*", seed), 24)
+
+
+def chain(phrase, seed, count):
+    """The passwords at counts 0 to count: seed in lower case, then pass-phrase."""
+    passwords = [fold(md5(seed.lower() + phrase))]
+    for _ in range(count):
+        passwords.append(hashed_once(passwords[-1]))
+    return passwords
+
+
+def generator(phrase, seed, count):
+    """10, 11, 23, 24, 13 in that order."""
+    check_phrase(phrase)
+    check_seed(seed)
+    refuse_if(count > 9999, 13)
+    return chain(phrase, seed, count)[count]
+
+
+# 01, Six words and hex
+
+
+def pair_sum(password):
+    """The 32 pairs of bits added, modulo 4."""
+    return sum(password >> 2 * i & 3 for i in range(32)) % 4
+
+
+def places_of(password):
+    """64 bits and the pair sum's two, cut into six numbers of 11 bits."""
+    bits = password << 2 | pair_sum(password)
+    return [bits >> 11 * i & 2047 for i in range(5, -1, -1)]
+
+
+def words_of(password):
+    """Upper case, one space between."""
+    return " ".join(WORDS[place] for place in places_of(password)).encode()
+
+
+def hex_of(password):
+    """Sixteen lower-case digits."""
+    return b"%016x" % password
+
+
+def into_room(text, room):
+    """40 if the buffer is shorter than the text."""
+    refuse_if(room < len(text), 40)
+    return text
+
+
+def read_words(tokens):
+    """Six tokens of letters: 31 for the first unknown word, then 32."""
+    words = [token.decode().upper() for token in tokens]
+    for place, word in enumerate(words, 1):
+        refuse_if(word not in PLACE_OF, 31, place)
+    bits = 0
+    for word in words:
+        bits = bits << 11 | PLACE_OF[word]
+    password = bits >> 2
+    refuse_if(pair_sum(password) != bits & 3, 32)
+    return password
+
+
+def read_reply(text):
+    """30; six tokens of one to four letters are words; sixteen digits; 33."""
+    refuse_if(len(text) > 128, 30)
+    tokens = [token for token in re.split(rb"[ \t\r\n]", text) if token]
+    if len(tokens) == 6 and all(re.fullmatch(rb"[A-Za-z]{1,4}", t) for t in tokens):
+        return read_words(tokens)
+    digits = b"".join(tokens)
+    refuse_if(not re.fullmatch(rb"[0-9A-Fa-f]{16}", digits), 33)
+    return int(digits, 16)
+
+
+# 01, Challenges
+
+
+def token_at(text, at):
+    """The token that starts at `at`: it ends before a space, tab, newline or the end."""
+    return re.compile(rb"[^ \t\n]*").match(text, at).group()
+
+
+def after_blanks(text, at):
+    """The place after the spaces and tabs at `at`."""
+    return re.compile(rb"[ \t]*").match(text, at).end()
+
+
+def read_challenge(text):
+    """Steps 1 to 5: the count, where the seed starts, its length, the bytes used."""
+    refuse_if(text[:4] != b"otp-", 20)
+    algorithm = token_at(text, 4)
+    refuse_if(algorithm != b"md5", 21)
+    count_at = after_blanks(text, 4 + len(algorithm))
+    digits = token_at(text, count_at)
+    refuse_if(not re.fullmatch(rb"0|[1-9][0-9]{0,3}", digits), 22)
+    seed_at = after_blanks(text, count_at + len(digits))
+    seed = token_at(text, seed_at)
+    check_seed(seed)
+    end = seed_at + len(seed)
+    refuse_if(text[end:end + 1] not in (b" ", b"\n"), 25)
+    return int(digits), seed_at, len(seed), end + 1
+
+
+def challenge_text(seed, count):
+    """Single spaces, the seed in lower case and a newline."""
+    return b"otp-md5 %d %s\n" % (count, seed.lower())
+
+
+def write_challenge(seed, count, room):
+    """23, 24, 13, 40 in that order."""
+    check_seed(seed)
+    refuse_if(count > 9999, 13)
+    return into_room(challenge_text(seed, count), room)
+
+
+# 01, The card
+
+
+def card_text(phrase, challenge, lines):
+    """10, 11, 20 to 25, 70; then a line each for counts n down to n-k+1."""
+    check_phrase(phrase)
+    count, at, length, _ = read_challenge(challenge)
+    refuse_if(not 1 <= lines <= min(99, count), 70)
+    passwords = chain(phrase, challenge[at:at + length], count)
+    return b"".join(
+        b"%d %s %s\n" % (n, hex_of(passwords[n]), words_of(passwords[n]))
+        for n in range(count, count - lines, -1))
+
+
+def write_card(phrase, challenge, lines, room):
+    """40 comes last, before a byte is written."""
+    return into_room(card_text(phrase, challenge, lines), room)
+
+
+def three_lines(stdin):
+    """Only the challenge keeps its newline; a missing line is empty."""
+    phrase, _, rest = stdin.partition(b"\n")
+    challenge, newline, rest = rest.partition(b"\n")
+    return phrase, challenge + newline, rest.partition(b"\n")[0]
+
+
+def card_program(stdin):
+    """What program `card` prints: the card, or `refused` and the number."""
+    try:
+        refuse_if(len(stdin) > 256, 12)
+        phrase, challenge, k = three_lines(stdin)
+        # a malformed k is 0 lines: 70, but only after the other checks
+        lines = int(k) if re.fullmatch(rb"[1-9][0-9]?", k) else 0
+        return card_text(phrase, challenge, lines)
+    except Refused as refusal:
+        return b"refused %d\n" % refusal.number
+
+
+# 01, Table, ports and turns
+
+
+class Account:
+    def __init__(self, seed, count, password):
+        self.seed, self.count, self.password = seed.lower(), count, password
+
+
+class Port:
+    def __init__(self):
+        self.wrong_run = self.shut_ticks = 0
+
+
+class Table:
+    """A fresh table: no accounts, an empty line and zeros."""
+
+    def __init__(self):
+        self.accounts = {}
+        self.ports = [Port() for _ in range(4)]
+        self.line = []  # (port, id of the account it waits for), front first
+        self.turn = 0
+
+    def enrol(self, id, count, seed, password):
+        """50, 51, 23, 24, 52, 53."""
+        refuse_if(id == 0, 50)
+        refuse_if(not 2 <= count <= 9999, 51)
+        check_seed(seed)
+        refuse_if(id in self.accounts, 52)
+        refuse_if(len(self.accounts) == 32, 53)
+        self.accounts[id] = Account(seed, count, password)
+
+    def remove(self, id):
+        """54. Every port in line for that account leaves it."""
+        refuse_if(id not in self.accounts, 54)
+        del self.accounts[id]
+        self.take_out(lambda port, waits_for: waits_for == id)
+
+    def join(self, port, id):
+        """55, 54, 56, 57, 58. The port goes to the back."""
+        refuse_if(port > 3, 55)
+        refuse_if(id not in self.accounts, 54)
+        refuse_if(self.is_waiting(port), 56)
+        refuse_if(self.ports[port].shut_ticks > 0, 57)
+        refuse_if(self.accounts[id].count == 1, 58)
+        if not self.line:
+            self.turn = 60
+        self.line.append((port, id))
+
+    def leave(self, port):
+        """55, 59."""
+        refuse_if(port > 3, 55)
+        refuse_if(not self.is_waiting(port), 59)
+        self.take_out(lambda leaving, _: leaving == port)
+
+    def challenge(self, port, room):
+        """The checks of a turn, then 40. Stored count less 1 and the seed."""
+        account = self.account_in_turn(port)
+        return into_room(challenge_text(account.seed, account.count - 1), room)
+
+    def reply(self, port, text):
+        """The checks of a turn, 30 to 33, then 61 or 62, or the new count."""
+        account = self.account_in_turn(port)
+        password = read_reply(text)
+        self.offer(port, account, password)
+        account.password = password
+        account.count -= 1
+        return account.count
+
+    def renew(self, port, count, seed, password, text):
+        """The checks of a turn, 51, 23, 24, 63, then as Reply."""
+        account = self.account_in_turn(port)
+        refuse_if(not 2 <= count <= 9999, 51)
+        check_seed(seed)
+        refuse_if(seed.lower() == account.seed, 63)
+        self.offer(port, account, read_reply(text))
+        account.__init__(seed, count, password)
+        return count
+
+    def tick(self):
+        """Shut counts fall, then the turn; at 0 the front port leaves."""
+        for port in self.ports:
+            port.shut_ticks = max(0, port.shut_ticks - 1)
+        if self.line:
+            self.turn -= 1
+            if self.turn == 0:
+                self.leave(self.line[0][0])
+
+    def is_waiting(self, port):
+        return any(waiting == port for waiting, _ in self.line)
+
+    def account_in_turn(self, port):
+        """55, 59, 60, 58: the account that the front port waits for."""
+        refuse_if(port > 3, 55)
+        refuse_if(not self.is_waiting(port), 59)
+        refuse_if(self.line[0][0] != port, 60)
+        account = self.accounts[self.line[0][1]]
+        refuse_if(account.count == 1, 58)
+        return account
+
+    def offer(self, port, account, password):
+        """Hash once and compare: the port leaves either way; 61, or 62 at the third."""
+        right = hashed_once(password) == account.password
+        self.leave(port)
+        record = self.ports[port]
+        record.wrong_run = 0 if right else record.wrong_run + 1
+        if record.wrong_run == 3:
+            record.wrong_run, record.shut_ticks = 0, 900
+            raise Refused(62)
+        refuse_if(not right, 61)
+
+    def take_out(self, goes):
+        """Whenever the front port leaves, the next starts at 60; nobody: 0."""
+        front = self.line[:1]
+        self.line = [waiting for waiting in self.line if not goes(*waiting)]
+        if self.line[:1] != front:
+            self.turn = 60 if self.line else 0
+
+    def dump(self):
+        """The table on a line: accounts by rising id, ports, line, turn."""
+        accounts = ",".join(
+            f"{id}:{a.seed.hex()}:{a.count}:{a.password:016x}"
+            for id, a in sorted(self.accounts.items()))
+        ports = ",".join(f"{p.wrong_run}:{p.shut_ticks}" for p in self.ports)
+        line = ",".join(f"{port}:{id}" for port, id in self.line)
+        return f"A={accounts or '-'} P={ports} L={line or '-'} T={self.turn}"
+
+
+# The line format: one call a line, one answer a line
+
+
+class Bad(Exception):
+    """A line that is no call."""
+
+
+def text_in(word):
+    """Bytes as lower-case hex; `-` is the empty text."""
+    if word == "-":
+        return b""
+    if not re.fullmatch("([0-9a-f]{2})+", word):
+        raise Bad
+    return bytes.fromhex(word)
+
+
+def password_in(word):
+    if not re.fullmatch("[0-9a-f]{16}", word):
+        raise Bad
+    return int(word, 16)
+
+
+def number_to(most):
+    def number_in(word):
+        if not re.fullmatch("0*[0-9]{1,6}", word) or int(word) > most:
+            raise Bad
+        return int(word)
+    return number_in
+
+
+TEXT, PASSWORD = text_in, password_in
+NUMBER, ROOM, TICKS = number_to(65535), number_to(8192), number_to(100000)
+
+
+def hex_word(text):
+    return text.hex() or "-"
+
+
+def ticks(table, n):
+    for _ in range(n):
+        table.tick()
+
+
+# each call's kinds of words, and what it does on the table: the values of its answer
+CALLS = {
+    "md5": ([TEXT], lambda t, data: hex_word(md5(data))),
+    "gen": ([TEXT, TEXT, NUMBER], lambda t, *given: "%016x" % generator(*given)),
+    "words": ([PASSWORD, ROOM], lambda t, p, room: into_room(words_of(p), room)),
+    "hex": ([PASSWORD, ROOM], lambda t, p, room: into_room(hex_of(p), room)),
+    "read": ([TEXT], lambda t, text: "%016x" % read_reply(text)),
+    "chal": ([TEXT], lambda t, text: "%d %d %d %d" % read_challenge(text)),
+    "wchal": ([TEXT, NUMBER, ROOM], lambda t, *given: write_challenge(*given)),
+    "card": ([TEXT, TEXT, NUMBER, ROOM], lambda t, *given: write_card(*given)),
+    "prog": ([TEXT], lambda t, stdin: hex_word(card_program(stdin))),
+    "new": ([], Table.__init__),
+    "enrol": ([NUMBER, NUMBER, TEXT, PASSWORD], Table.enrol),
+    "remove": ([NUMBER], Table.remove),
+    "join": ([NUMBER, NUMBER], Table.join),
+    "leave": ([NUMBER], Table.leave),
+    "challenge": ([NUMBER, ROOM], Table.challenge),
+    "reply": ([NUMBER, TEXT], Table.reply),
+    "renew": ([NUMBER, NUMBER, TEXT, PASSWORD, TEXT], Table.renew),
+    "tick": ([TICKS], ticks),
+    "dump": ([], Table.dump),
+}
+
+
+def answer(table, line):
+    """The answer to one call; `bad` to a line that is none."""
+    name, *words = line.split(" ")
+    kinds, act = CALLS.get(name, (None, None))
+    if kinds is None or len(words) != len(kinds):
+        return "bad"
+    # only a writer is lent room, as its last word; a model's buffer is never dirty
+    clean = " clean" if ROOM in kinds else ""
+    try:
+        value = act(table, *(kind(word) for kind, word in zip(kinds, words)))
+    except Bad:
+        return "bad"
+    except Refused as refusal:
+        place = f" {refusal.place}" if refusal.number == 31 else ""
+        return f"no {refusal.number}{place}{clean}"
+    if clean:
+        value = f"{len(value)} {hex_word(value)}"
+    return "ok" + ("" if value is None else f" {value}") + clean
+
+
+def replay(script):
+    """The answers to a script; empty lines and comments are passed over."""
+    table = Table()
+    return [answer(table, line) for line in script.split("\n")
+            if line and not line.startswith("#")]
+
+
+if __name__ == "__main__":
+    for said in replay(sys.stdin.buffer.read().decode("latin-1")):
+        print(said)

@@ -1,0 +1,63 @@
+"""The host tests: `python3 host/test.py`, after `rt ci`.
+
+Builds the archive of the exported functions and the C programs over it, and
+runs each section below, a line each. Any failure ends it with status 1. With
+an argument it tests that archive and builds none.
+"""
+import pathlib
+import sys
+import time
+
+sys.dont_write_bytecode = True
+
+import harness  # noqa: E402
+from sections import paper, passwords, replies, selftest  # noqa: E402
+
+SECTIONS = [
+    ("comparison can fail", selftest.comparison_can_fail),
+    ("document 01's examples", paper.examples),
+    ("recorded scripts", paper.scripts),
+    ("RFC 2289, Appendix C", passwords.appendix_c),
+    ("MD5 at random", passwords.md5_at_random),
+    ("generator at random", passwords.generator_at_random),
+    ("lines that are no call", passwords.lines_that_are_no_call),
+    ("Appendix C as words and hex", replies.appendix_c),
+    ("every word at each place", replies.every_word),
+    ("replies at random and damaged", replies.replies_at_random),
+    ("words and hex at every room", replies.writers_at_every_room),
+]
+
+
+def said_of(name, section, *given):
+    """Runs one section; whether it passed."""
+    started = time.monotonic()
+    try:
+        outcome, passed = section(*given), True
+    except harness.Failed as failure:
+        outcome, passed = f"FAILED: {failure}", False
+    print(f"host: {name}: {outcome} ({time.monotonic() - started:.1f} s)", flush=True)
+    return passed
+
+
+def boundary(library):
+    """The C test of each exported function, under the sanitizers."""
+    sources = [*sorted((harness.ROOT / "host").glob("boundary*.c")), "host/lend.c"]
+    program = harness.build("boundary", sources, library, harness.SANITIZERS)
+    return harness.run([program]).strip().replace("\n", "; ")
+
+
+def main(arguments):
+    try:
+        library = pathlib.Path(arguments[0]).resolve() if arguments else harness.archive()
+        driver = harness.build("driver", ["host/driver.c", "host/lend.c"], library, ["-O2"])
+    except harness.Failed as failure:
+        print(f"host: FAILED to build: {failure}")
+        return 1
+    passed = [said_of("C boundary, with sanitizers", boundary, library)]
+    passed += [said_of(name, section, driver) for name, section in SECTIONS]
+    print(f"host: {passed.count(True)} sections passed, {passed.count(False)} failed")
+    return 0 if all(passed) else 1
+
+
+if __name__ == "__main__":
+    sys.exit(main(sys.argv[1:]))

@@ -1,0 +1,93 @@
+/* lift.h: the one-time-password functions that the panel firmware calls.
+ *
+ * The functions are proved in the crates of this repository; link
+ * target/staticlib/libpanel.a, which `rt staticlib panel` writes. Nothing is
+ * allocated and nothing is kept between calls: a call may be made from any
+ * task, and two tasks may call at once with buffers of their own.
+ *
+ * What every call gives
+ *   - `refusal` is 0, or the number of document 01's table. After a refusal
+ *     every other field is 0, except `place` beside 31.
+ *   - Checks run in the order in which a function's comment lists its
+ *     refusals; the first that fails is the answer.
+ *   - A writer touches only the first `written` bytes of the buffer lent to
+ *     it: none at all after a refusal. What is lent to be read is only read.
+ *   - A text is bytes with a length. No call looks for a NUL or writes one.
+ *
+ * What the host owes (C can't check it, and the proofs rest on it)
+ *   - A pointer and its length name memory that is there for that whole
+ *     length; a pointer may be null only where its length is 0.
+ *   - Two buffers lent to one call don't overlap.
+ *   - Nobody else writes to a lent buffer while the call runs.
+ */
+#ifndef LIFT_H
+#define LIFT_H
+
+#include <stddef.h>
+#include <stdint.h>
+
+#ifdef __cplusplus
+extern "C" {
+#endif
+
+/* A password, as the 64-bit number whose first byte is the most significant,
+ * or a refusal. `place` is 1 to 6 with refusal 31, otherwise 0. */
+typedef struct {
+    uint64_t password;
+    uint32_t refusal;
+    uint32_t place;
+} lift_reading;
+
+/* How many bytes a writer put at the front of the buffer, or a refusal. */
+typedef struct {
+    size_t written;
+    uint32_t refusal;
+} lift_written;
+
+/* MD5 (RFC 1321) of text[0 .. text_len], 0 to 4,096 bytes: the 16 bytes of
+ * the digest are written to digest[0 .. 16].
+ *   12  text_len is over 4,096
+ *   40  digest_len is under 16 */
+lift_written lift_md5(const uint8_t *text, size_t text_len,
+                      uint8_t *digest, size_t digest_len);
+
+/* The password for a pass-phrase, a seed and a count (RFC 2289 with MD5).
+ * The pass-phrase is bytes of any value; the seed is taken in either case.
+ * The time grows with the count: a count of 9,999 hashes 10,000 times.
+ *   10  phrase_len is under 10
+ *   11  phrase_len is over 63
+ *   23  seed_len is not 1 to 16
+ *   24  a byte of the seed is no ASCII letter or digit
+ *   13  count is over 9,999 */
+lift_reading lift_password(const uint8_t *phrase, size_t phrase_len,
+                           const uint8_t *seed, size_t seed_len,
+                           uint32_t count);
+
+/* Reads a reply: six words or sixteen hex digits, in either case, between
+ * spaces, tabs, carriage returns and newlines. Six tokens of one to four
+ * letters are words, even where they could be hex.
+ *   30  text_len is over 128
+ *   31  a word is not in the dictionary; `place` is that of the first such
+ *   32  the words are known, but their check sum is wrong
+ *   33  neither six words nor sixteen digits */
+lift_reading lift_read_reply(const uint8_t *text, size_t text_len);
+
+/* Writes a password as 16 lower-case hex digits to buf[0 .. 16].
+ *   40  buf_len is under 16 */
+lift_written lift_write_hex(uint64_t password, uint8_t *buf, size_t buf_len);
+
+/* Writes a password as six upper-case words with a space between, 11 to 29
+ * bytes, to the front of buf.
+ *   40  buf_len is under the length of this very text */
+lift_written lift_write_words(uint64_t password, uint8_t *buf, size_t buf_len);
+
+/* Eight bytes as a password, the first most significant, and back. Neither
+ * refuses; bytes[0 .. 8] has to be there. */
+uint64_t lift_password_of(const uint8_t bytes[8]);
+void lift_bytes_of(uint64_t password, uint8_t bytes[8]);
+
+#ifdef __cplusplus
+}
+#endif
+
+#endif
