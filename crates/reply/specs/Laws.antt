@@ -31,11 +31,11 @@ use Rattle.reply.specs.Reading.{isWord, sixWords, upperText, summed, fou
 use Rattle.reply.specs.WordLaws.{number-all, places-all, places-words, places-upper, places-found, tokens-spaced, length-spaced, found-all, found-password, found-tokens}
 
 -- ---- the two ways of reading, behind the length
-reads-words : (text : List ℕ) → length text ≤ 128 → sixWords (tokens text) ≡ true → readingOf text ≡ wordsReading (map upperText (tokens text))
+pub reads-words : (text : List ℕ) → length text ≤ 128 → sixWords (tokens text) ≡ true → readingOf text ≡ wordsReading (map upperText (tokens text))
 unfolding readingOf
 reads-words text h e = rw (le-ltb 128 (length text) h, e)
 
-reads-hex : (text : List ℕ) → length text ≤ 128 → sixWords (tokens text) ≡ false → readingOf text ≡ hexReading (unspaced text)
+pub reads-hex : (text : List ℕ) → length text ≤ 128 → sixWords (tokens text) ≡ false → readingOf text ≡ hexReading (unspaced text)
 unfolding readingOf
 reads-hex text h e = rw (le-ltb 128 (length text) h, e)
 

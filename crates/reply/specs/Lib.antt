@@ -6,3 +6,4 @@ pub mod WordLaws
 pub mod Laws
 pub mod Examples
 pub mod Determined
+pub mod Refusals
