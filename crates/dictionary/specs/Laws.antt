@@ -259,33 +259,6 @@ word-spelt i h =
 pub letters-at : (i : ℕ) → i < 2048 → lettersOf (packedAt i) ≡ wordAt i
 letters-at i h = ap lettersOf (packed-at i) ∙ letters-packed (wordAt i) (word-spelt i h)
 
--- a word of one to four letters is found at a place exactly if it stands there
-pub found-word : (w : List ℕ) → Spelt w → (i : ℕ) → (foundOf (packed w) ≡ Found.At i) ↔ ((i < 2048) × (wordAt i ≡ w))
-found-word w s i = (there, found)
-  where
-    there : foundOf (packed w) ≡ Found.At i → (i < 2048) × (wordAt i ≡ w)
-    there e =
-        let r = found-place (packed w) i e in
-        (r .0, packed-injective (wordAt i) w (word-spelt i (r .0)) s (sym (packed-at i) ∙ r .1))
-
-    found : (i < 2048) × (wordAt i ≡ w) → foundOf (packed w) ≡ Found.At i
-    found h = ap foundOf (ap packed (sym (h .1)) ∙ sym (packed-at i)) ∙ at-place i (h .0)
-
--- and is not found exactly if it stands nowhere
-pub unknown-word : (w : List ℕ) → Spelt w → (foundOf (packed w) ≡ Found.Nothing) ↔ ((i : ℕ) → i < 2048 → wordAt i ≡ w → ⊥)
-unknown-word w s = (nowhere, unknown)
-  where
-    nowhere : foundOf (packed w) ≡ Found.Nothing → (i : ℕ) → i < 2048 → wordAt i ≡ w → ⊥
-    nowhere e i h f =
-        let there = found-word w s i .1 (h, f) in
-        let z : _≡_ {A = ℕ} 0 1 = cc in
-        omega arith
-
-    unknown : ((i : ℕ) → i < 2048 → wordAt i ≡ w → ⊥) → foundOf (packed w) ≡ Found.Nothing
-    unknown f =
-        no-place (packed w)
-        (λ i h e. f i h (packed-injective (wordAt i) w (word-spelt i h) s (sym (packed-at i) ∙ e)))
-
 -- ---- packed words stand where the words do
 
 same-packed : (v w : List ℕ) → Spelt v → Spelt w → eqb (packed v) (packed w) ≡ same v w
@@ -305,3 +278,30 @@ stands-packed i w (v ∷ vs) s f =
 pub place-packed : (w : List ℕ) → Spelt w → foundOf (packed w) ≡ placeOf w
 unfolding foundOf placeOf dictionary
 place-packed w s = stands-packed 0 w words s (λ k h. word-spelt k (rw words-count at h))
+
+-- a word of one to four letters is found at a place exactly if it stands there
+pub found-word : (w : List ℕ) → Spelt w → (i : ℕ) → (placeOf w ≡ Found.At i) ↔ ((i < 2048) × (wordAt i ≡ w))
+found-word w s i = (there, found)
+  where
+    there : placeOf w ≡ Found.At i → (i < 2048) × (wordAt i ≡ w)
+    there e =
+        let r = found-place (packed w) i (place-packed w s ∙ e) in
+        (r .0, packed-injective (wordAt i) w (word-spelt i (r .0)) s (sym (packed-at i) ∙ r .1))
+
+    found : (i < 2048) × (wordAt i ≡ w) → placeOf w ≡ Found.At i
+    found h = sym (place-packed w s) ∙ ap foundOf (ap packed (sym (h .1)) ∙ sym (packed-at i)) ∙ at-place i (h .0)
+
+-- and is not found exactly if it stands nowhere
+pub unknown-word : (w : List ℕ) → Spelt w → (placeOf w ≡ Found.Nothing) ↔ ((i : ℕ) → i < 2048 → wordAt i ≡ w → ⊥)
+unknown-word w s = (nowhere, unknown)
+  where
+    nowhere : placeOf w ≡ Found.Nothing → (i : ℕ) → i < 2048 → wordAt i ≡ w → ⊥
+    nowhere e i h f =
+        let there = found-word w s i .1 (h, f) in
+        let z : _≡_ {A = ℕ} 0 1 = cc in
+        omega arith
+
+    unknown : ((i : ℕ) → i < 2048 → wordAt i ≡ w → ⊥) → placeOf w ≡ Found.Nothing
+    unknown f =
+        sym (place-packed w s) ∙ no-place (packed w)
+        (λ i h e. f i h (packed-injective (wordAt i) w (word-spelt i h) s (sym (packed-at i) ∙ e)))

@@ -16,7 +16,7 @@ use Rattle.text.specs.Scan.{tokens}
 use Rattle.text.specs.ScanLaws.{tokens-one, tokens-space}
 use Rattle.dictionary.specs.declared.Found.{Found}
 use Rattle.dictionary.specs.Dictionary.{packedAt, lettersOf, wordAt, placeOf}
-use Rattle.dictionary.specs.Laws.{Spelt, word-upper, word-spelt, letters-at, found-word, place-packed}
+use Rattle.dictionary.specs.Laws.{Spelt, word-upper, word-spelt, letters-at, found-word}
 use Rattle.sixwords.specs.declared.Number.{Number}
 use Rattle.sixwords.specs.Places.{pairSum, joined, placesOf, allPlaces, numberOf}
 use Rattle.sixwords.specs.Laws.{number-places}
@@ -87,8 +87,7 @@ module _ (i : ℕ) (h : i < 2048) where
       (λ k l. List·getD-map upperOf (wordAt i) k 0 ∙ upper-kept (getD (wordAt i) k 0) (word-upper i h k (rw (length-map (wordAt i) upperOf) at l) .1))
 
   pub dictionary-place : placeOf (wordAt i) ≡ Found.At i
-  dictionary-place =
-      sym (place-packed (wordAt i) (word-spelt i h)) ∙ found-word (wordAt i) (word-spelt i h) i .1 (h, refl)
+  dictionary-place = found-word (wordAt i) (word-spelt i h) i .1 (h, refl)
 
 -- the same of a list of places
 pub places-words : (ps : List ℕ) → allPlaces ps ≡ true → every isWord (map wordAt ps) ≡ true
@@ -161,4 +160,4 @@ found-tokens (t ∷ ts) (i ∷ ps) g e =
     let spelt = spelt-token t (halves .0) in
     let first : placeOf (upperText t) ≡ Found.At i = cc in
     let rest : map placeOf (map upperText ts) ≡ map Found.At ps = cc in
-    ap₂ (λ (w : List ℕ) (ws : List (List ℕ)). w ∷ ws) (sym (found-word (upperText t) spelt i .0 (place-packed (upperText t) spelt ∙ first) .1)) (found-tokens ts ps (halves .1) rest)
+    ap₂ (λ (w : List ℕ) (ws : List (List ℕ)). w ∷ ws) (sym (found-word (upperText t) spelt i .0 first .1)) (found-tokens ts ps (halves .1) rest)
