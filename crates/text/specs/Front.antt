@@ -24,3 +24,7 @@ writtenOf room t = cond (leb (length t) room) (Written.Wrote (length t)) (Writte
 abbrev pub leaves : Written → List ℕ → List ℕ → List ℕ
 leaves (Written.Wrote n) t b = front t b
 leaves (Written.Refused why) t b = b
+
+-- the promise of a writer of t into the buffer b: it answers r and leaves b′
+abbrev pub Writes : List ℕ → List ℕ → List ℕ → Written → Type 0
+Writes t b b′ r = (r ≡ writtenOf (length b) t) × (b′ ≡ leaves r t b)

@@ -7,7 +7,11 @@ use native.Mathlib.Numerals.{add-one}
 use lib.ListN.{length, getD, take, drop, set, length-append, length-drop, drop-of-length-le}
 use lib.Seq.{take-all, take-at, drop-at, drop-drop, drop-cons, set-at, set-split, take-suc, append-snoc, length-take-le}
 use borrow.Rule.Slice.PartMut.{midOf, putMid}
-use Rattle.text.specs.Front.{front, Put}
+use mathlib.Core.Bool.{Bool, cond}
+use borrow.Author.Tests.{le-leb, lt-leb}
+use Rattle.refusal.specs.declared.Refusal.{Refusal}
+use Rattle.refusal.specs.declared.Written.{Written}
+use Rattle.text.specs.Front.{front, Put, leaves, Writes}
 use Rattle.text.specs.Digits.{digitOf, digitsOf}
 
 pub length-front : (t b : List ℕ) → length t ≤ length b → length (front t b) ≡ length b
@@ -61,3 +65,19 @@ spelt base b i r h =
     ∙ append-snoc (digitsOf base i (r / base)) (digitOf (r % base)) (drop (suc i) b)
     ∙ ap (λ (l : List ℕ). digitsOf base i (r / base) ++ l)
     (sym (ap (drop i) (set-split b i (digitOf (r % base)) h) ∙ drop-at (take i b) (digitOf (r % base) ∷ drop (suc i) b) i (length-take-le i b (omega arith))))
+
+-- a text that was put where it had room was written
+pub put-writes : (t b b′ : List ℕ) (n : ℕ) → length t ≤ length b → Put t b b′ n → Writes t b b′ (Written.Wrote n)
+put-writes t b b′ n h p =
+    (ap Written.Wrote (p .0) ∙ sym (ap (λ (e : Bool). cond e (Written.Wrote (length t)) (Written.Refused Refusal.BufferShort)) (le-leb (length t) (length b) h)), p .1)
+
+-- a text without room is refused, and the buffer is as it was
+pub short-writes : (t b : List ℕ) → length b < length t → Writes t b b (Written.Refused Refusal.BufferShort)
+short-writes t b h =
+    (sym (ap (λ (e : Bool). cond e (Written.Wrote (length t)) (Written.Refused Refusal.BufferShort)) (lt-leb (length t) (length b) h)), refl)
+
+-- a writer's promise fixes its answer and what it leaves
+pub writes-determined : (t b b₁ b₂ : List ℕ) (r₁ r₂ : Written) → Writes t b b₁ r₁ → Writes t b b₂ r₂ → (r₁ ≡ r₂) × (b₁ ≡ b₂)
+writes-determined t b b₁ b₂ r₁ r₂ p q =
+    let same = p .0 ∙ sym (q .0) in
+    (same, p .1 ∙ ap (λ (r : Written). leaves r t b) same ∙ sym (q .1))

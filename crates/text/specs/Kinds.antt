@@ -24,6 +24,10 @@ isDigit b = leb 48 b && leb b 57
 abbrev pub isWhite : ℕ → Bool
 isWhite b = eqb b 32 || eqb b 9 || eqb b 13 || eqb b 10
 
+-- a byte of a reply's token
+abbrev pub isSolid : ℕ → Bool
+isSolid b = not (isWhite b)
+
 -- 01, Challenges: "spaces or tabs"
 abbrev pub isBlank : ℕ → Bool
 isBlank b = eqb b 32 || eqb b 9
@@ -35,6 +39,7 @@ inToken b = not (isBlank b || eqb b 10)
 -- b is a byte of that kind
 abbrev pub ofKind : Kind → ℕ → Bool
 ofKind Kind.White b = isWhite b
+ofKind Kind.Solid b = isSolid b
 ofKind Kind.Blank b = isBlank b
 ofKind Kind.Token b = inToken b
 ofKind Kind.Digit b = isDigit b

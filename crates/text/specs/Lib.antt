@@ -3,7 +3,8 @@ pub mod Kinds
 pub mod Scan
 pub mod Digits
 pub mod Front
+pub mod Tests
 pub mod ScanLaws
-pub mod FrontLaws
 pub mod DigitLaws
+pub mod FrontLaws
 pub mod Quoted

@@ -22,3 +22,8 @@ parted met (b ∷ s) = cond (isWhite b) (piece met ++ parted [] s) (parted (met 
 -- 01, Six words and hex: the tokens of a reply, in order
 abbrev pub tokens : List ℕ → List (List ℕ)
 tokens s = parted [] s
+
+-- 01, Six words and hex: "the bytes left without white space"
+unfoldable pub unspaced : List ℕ → List ℕ
+unspaced [] = []
+unspaced (b ∷ s) = cond (isWhite b) (unspaced s) (b ∷ unspaced s)

@@ -1,13 +1,15 @@
 -- Laws of runs and tokens.
-use Prim.Native.Nat.{ℕ, suc, zero, _+_, _-_, _≤_, _<_}
-use mathlib.Core.Path.{_≡_, refl, sym, _∙_, ap}
-use mathlib.Core.Bool.{Bool, true, false, cond}
-use mathlib.Core.List.{List, [], _∷_, _++_}
+use Prim.Native.Nat.{ℕ, suc, zero, _+_, _-_, _≤_, _<_, zero-le, suc-le-suc}
+use mathlib.Core.Path.{_≡_, refl, sym, _∙_, ap, ap₂}
+use mathlib.Core.Bool.{Bool, true, false, cond, not, _&&_}
+use mathlib.Core.List.{List, [], _∷_, _++_, append-assoc, append-nil}
 use native.Mathlib.Omega.{arith}
 use native.Mathlib.Numerals.{add-one}
-use lib.ListN.{length, getD, take, drop, drop-of-length-le}
-use lib.Seq.{drop-cons}
-use Rattle.text.specs.Scan.{runOf}
+use lib.ListN.{length, getD, take, drop, length-take, drop-of-length-le}
+use lib.Seq.{drop-cons, append-snoc}
+use Rattle.text.specs.Tests.{every, either, cases}
+use Rattle.text.specs.Kinds.{isWhite, isSolid}
+use Rattle.text.specs.Scan.{runOf, piece, parted, tokens}
 
 -- a run past the end is empty
 pub run-past : (test : ℕ → Bool) (s : List ℕ) (i : ℕ) → length s ≤ i → runOf test (drop i s) ≡ 0
@@ -23,3 +25,78 @@ run-goes-on test s i h e = rw (drop-cons s i 0, e, add-one)
 pub run-ends : (test : ℕ → Bool) (s : List ℕ) (i : ℕ) → i < length s → test (getD s i 0) ≡ false → runOf test (drop i s) ≡ 0
 unfolding runOf
 run-ends test s i h e = rw (drop-cons s i 0, e)
+
+-- a run stays within the text
+pub run-within : (test : ℕ → Bool) (s : List ℕ) → runOf test s ≤ length s
+unfolding runOf
+run-within test [] = zero-le
+run-within test (b ∷ s) = either (λ (n : ℕ). n ≤ suc (length s)) (test b) (λ e. suc-le-suc (run-within test s)) (λ e. zero-le)
+
+-- each byte of a run passes the test
+pub run-every : (test : ℕ → Bool) (s : List ℕ) → every test (take (runOf test s) s) ≡ true
+unfolding runOf every
+run-every test [] = refl
+run-every test (b ∷ s) =
+    either (λ (n : ℕ). every test (take n (b ∷ s)) ≡ true) (test b)
+    (λ e. ap₂ (λ (t u : Bool). t && u) e (run-every test s))
+    (λ e. refl)
+
+-- white space before a text is passed over
+pub tokens-white : (s : List ℕ) → tokens s ≡ tokens (drop (runOf isWhite s) s)
+unfolding runOf parted
+tokens-white [] = refl
+tokens-white (b ∷ s) = go (tokens-white s) (isWhite b) refl
+  where
+    go : tokens s ≡ tokens (drop (runOf isWhite s) s) → (t : Bool) → isWhite b ≡ t →
+        cond t (parted [] s) (parted (b ∷ []) s) ≡ tokens (drop (cond t (suc (runOf isWhite s)) 0) (b ∷ s))
+    go ih true e = ih
+    go ih false e = sym (ap (λ (t : Bool). cond t (parted [] s) (parted (b ∷ []) s)) e)
+
+-- the bytes already met and the run of solid bytes make a token
+pub parted-run : (met s : List ℕ) → parted met s ≡ piece (met ++ take (runOf isSolid s) s) ++ tokens (drop (runOf isSolid s) s)
+unfolding runOf parted
+parted-run met [] = sym (append-nil (piece (met ++ [])) ∙ ap piece (append-nil met))
+parted-run met (b ∷ s) = go (parted-run (met ++ b ∷ []) s) (isWhite b) refl
+  where
+    n : ℕ
+    n = runOf isSolid s
+
+    go : parted (met ++ b ∷ []) s ≡ piece (met ++ b ∷ [] ++ take n s) ++ tokens (drop n s) → (t : Bool) → isWhite b ≡ t →
+        cond t (piece met ++ parted [] s) (parted (met ++ b ∷ []) s) ≡
+        piece (met ++ take (cond (not t) (suc n) 0) (b ∷ s)) ++ tokens (drop (cond (not t) (suc n) 0) (b ∷ s))
+    go ih true e =
+        ap₂ (λ (l : List ℕ) (ts : List (List ℕ)). piece l ++ ts) (sym (append-nil met))
+        (sym (ap (λ (t : Bool). cond t (parted [] s) (parted (b ∷ []) s)) e))
+    go ih false e = ih ∙ ap (λ (l : List ℕ). piece l ++ tokens (drop n s)) (append-snoc met b (take n s))
+
+-- a text is its first run of solid bytes, if any, and the tokens after it
+pub tokens-run : (s : List ℕ) → tokens s ≡ piece (take (runOf isSolid s) s) ++ tokens (drop (runOf isSolid s) s)
+tokens-run s = parted-run [] s
+
+-- what lies past white space starts with a token
+pub solid-after : (s : List ℕ) → runOf isWhite s < length s → 0 < runOf isSolid (drop (runOf isWhite s) s)
+unfolding runOf
+solid-after [] h = h
+solid-after (b ∷ s) h = go (solid-after s) (isWhite b) refl h
+  where
+    go : (runOf isWhite s < length s → 0 < runOf isSolid (drop (runOf isWhite s) s)) → (t : Bool) → isWhite b ≡ t →
+        cond t (suc (runOf isWhite s)) 0 < suc (length s) → 0 < runOf isSolid (drop (cond t (suc (runOf isWhite s)) 0) (b ∷ s))
+    go ih true e l = ih (omega arith)
+    go ih false e l = rw e (omega arith)
+
+-- a text of white space has no token
+pub tokens-none : (s : List ℕ) → length s ≤ runOf isWhite s → tokens s ≡ []
+unfolding parted
+tokens-none s h = tokens-white s ∙ ap tokens (drop-of-length-le s h)
+
+-- and any other has one
+pub tokens-some : (s : List ℕ) → runOf isWhite s < length s → 0 < length (tokens s)
+tokens-some s h =
+    let rest = drop (runOf isWhite s) s in
+    rw (tokens-white s, tokens-run rest)
+    (piece-some (take (runOf isSolid rest) rest) (tokens (drop (runOf isSolid rest) rest))
+    (simp length-take (omega (arith, solid-after s h, run-within isSolid rest))))
+  where
+    piece-some : (t : List ℕ) (ts : List (List ℕ)) → 0 < length t → 0 < length (piece t ++ ts)
+    piece-some [] ts h = absurd (omega arith)
+    piece-some (b ∷ t) ts h = omega arith

@@ -1,10 +1,11 @@
 // The kinds of a byte, and the two cases of a letter. ASCII throughout: a byte over 127 is a token's byte and of no other kind.
 ghost use mathlib.Core.Path.{_≡_};
-ghost use Rattle.text.specs.Kinds.{isLetter, isDigit, isWhite, isBlank, inToken, ofKind, lowerOf, upperOf};
+ghost use Rattle.text.specs.Kinds.{isLetter, isDigit, isWhite, isSolid, isBlank, inToken, ofKind, lowerOf, upperOf};
 
 // What a run of bytes is made of.
 pub enum Kind {
     White, // of a reply: space, tab, carriage return, newline
+    Solid, // of a reply: all but those
     Blank, // of a challenge: space, tab
     Token, // of a challenge: all but space, tab, newline
     Digit,
@@ -30,6 +31,12 @@ pub fn is_white(b: u8) -> bool
     (b == b' ') | (b == b'\t') | (b == b'\r') | (b == b'\n')
 }
 
+pub fn is_solid(b: u8) -> bool
+    ensures { λ r. ⌜ r ≡ isSolid b ⌝ }
+{
+    !((b == b' ') | (b == b'\t') | (b == b'\r') | (b == b'\n'))
+}
+
 pub fn is_blank(b: u8) -> bool
     ensures { λ r. ⌜ r ≡ isBlank b ⌝ }
 {
@@ -47,6 +54,7 @@ pub fn of_kind(kind: Kind, b: u8) -> bool
 {
     match kind {
         Kind::White => is_white(b),
+        Kind::Solid => is_solid(b),
         Kind::Blank => is_blank(b),
         Kind::Token => in_token(b),
         Kind::Digit => is_digit(b),

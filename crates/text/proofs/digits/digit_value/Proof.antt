@@ -8,7 +8,8 @@ use native.Mathlib.Omega.{arith}
 use lib.Dec.{leb}
 use Rattle.text.specs.Kinds.{isDigit, lowerOf}
 use Rattle.text.specs.Digits.{digitValue}
-use Rattle.text.specs.DigitLaws.{both, value-digit, value-low, value-high, value-letter}
+use Rattle.text.specs.Tests.{both}
+use Rattle.text.specs.DigitLaws.{value-digit, value-low, value-high, value-letter}
 use Rattle.text.proofs.digits.digit_value.Statement.{statement}
 use Rattle.text.proofs.digits.digit_value.Tie as tie
 
