@@ -1,0 +1,5 @@
+-- The definitions that the promises of `challenge` cite, and its laws.
+pub mod Counts
+pub mod Challenges
+pub mod Inside
+pub mod Laws

@@ -1,0 +1,1 @@
+// Writing a challenge: single spaces, the seed in lower case, a newline.
