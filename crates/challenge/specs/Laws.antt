@@ -15,14 +15,14 @@ use Rattle.refusal.specs.Checks.{unless}
 use Rattle.text.specs.Quoted.{codes}
 use Rattle.text.specs.Kinds.{inToken, isBlank, isDigit}
 use Rattle.text.specs.Digits.{digitValue, numberOf}
-use Rattle.text.specs.DigitLaws.{value-digit, number-lt}
+use Rattle.text.specs.DigitLaws.{value-digit, number-lt, length-digits}
 use Rattle.password.specs.Checks.{seedChecked}
 use Rattle.challenge.specs.declared.reading.Challenge.{Challenge}
-use Rattle.challenge.specs.Counts.{leadingZero, isCount}
+use Rattle.challenge.specs.Counts.{leadingZero, isCount, widthOf, decimalOf}
 use Rattle.text.specs.Scan.{runOf}
 use Rattle.text.specs.ScanLaws.{run-within}
 use Rattle.text.specs.Tests.{every, both, either, cases}
-use Rattle.challenge.specs.Challenges.{opening, same, tokenAt, endOf, nextAt, countAt, seedAt, terminated, must, step1, step2, step3, step4, step5, found, challengeOf, startOf, lengthOf, seedOf}
+use Rattle.challenge.specs.Challenges.{opening, algorithm, challengeText, same, tokenAt, endOf, nextAt, countAt, seedAt, terminated, must, step1, step2, step3, step4, step5, found, challengeOf, startOf, lengthOf, seedOf}
 
 -- ---- the same text
 
@@ -158,3 +158,18 @@ module _ (n s l u : ℕ) where
         let f = good .5 in
         let same : numberOf 10 (tokenAt text (countAt text)) ≡ n = cc in
         omega (arith, count-low (tokenAt text (countAt text)) (must-good (isCount (tokenAt text (countAt text))) Refusal.CountUnread (good .2)))
+
+-- ---- what is written
+
+pub width-few : (n : ℕ) → (1 ≤ widthOf n) × (widthOf n ≤ 4)
+width-few n =
+    either (λ (w : ℕ). (1 ≤ w) × (w ≤ 4)) (ltb n 10) (λ e. omega arith)
+    (λ e. either (λ (w : ℕ). (1 ≤ w) × (w ≤ 4)) (ltb n 100) (λ f. omega arith)
+    (λ f. either (λ (w : ℕ). (1 ≤ w) × (w ≤ 4)) (ltb n 1000) (λ g. omega arith) (λ g. omega arith)))
+
+pub length-decimal : (n : ℕ) → length (decimalOf n) ≡ widthOf n
+length-decimal n = length-digits 10 (widthOf n) n
+
+pub length-challenge : (seed : List ℕ) (count : ℕ) → length (challengeText seed count) ≡ widthOf count + length seed + 10
+unfolding challengeText opening algorithm codes
+length-challenge seed count = simp (length-append, length-map) (omega (arith, length-decimal count))
