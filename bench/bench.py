@@ -15,6 +15,7 @@ sys.path.insert(0, str(pathlib.Path(__file__).resolve().parent.parent / "host"))
 
 import harness  # noqa: E402
 
+SOURCES = ["bench/bench.c", "bench/plain_md5.c", "bench/tuned_md5.c"]
 WHOSE = {
     "proved": "proved code",
     "plain": "plain C, gcc -O3",
@@ -26,15 +27,6 @@ TIMED = {
     "chain": ("9,999 chain steps", 9999, "a step"),
     "md5": ("MD5 of 4,096 bytes", 65, "a block"),
 }
-
-
-def build(library):
-    """-O3 for all the C here; the archive is as rt made it."""
-    harness.BUILT.mkdir(parents=True, exist_ok=True)
-    program = harness.BUILT / "bench"
-    harness.run(["gcc", *harness.WARNINGS, "-O3", "-Iinclude", "bench/bench.c",
-                 "bench/plain_md5.c", "bench/tuned_md5.c", library, "-ldl", "-o", program])
-    return program
 
 
 def timings(said):
@@ -68,7 +60,9 @@ def table(rounds):
 def main(arguments):
     try:
         library = pathlib.Path(arguments[0]).resolve() if arguments else harness.archive()
-        table(timings(harness.run([build(library)])))
+        # -O3 for the C here; the archive is as rt made it
+        program = harness.build("bench", SOURCES, library, ["-O3"])
+        table(timings(harness.run([program])))
     except harness.Failed as failure:
         print(f"bench: FAILED: {failure}")
         return 1

@@ -4,11 +4,13 @@
 #define _DEFAULT_SOURCE
 #include <inttypes.h>
 #include <stdio.h>
+#include <stdlib.h>
+#include <string.h>
 
 #include "lend.h"
 #include "lift.h"
 
-enum { MOST_WORDS = MOST_FIELDS, MOST_NUMBER = 65535 };
+enum { MOST_WORDS = FIELDS, MOST_NUMBER = 65535 };
 
 /* One word of a call: a number (of which a password is one), or bytes. */
 typedef struct {
@@ -46,20 +48,21 @@ static void print_reading(lift_reading r)
 }
 
 /* What a writer says it wrote; none of it where that can't be. */
-static void print_lent(size_t written)
+static void print_lent(const uint8_t *buf, size_t written)
 {
-    print_hex(around + GUARD, written <= MOST_ROOM ? written : 0);
+    print_hex(buf, written <= MOST_ROOM ? written : 0);
 }
 
 static void answer_md5(const word *given)
 {
-    lift_written w = lift_md5(given[0].bytes, given[0].len, lent(), 16);
+    uint8_t *digest = lent();
+    lift_written w = lift_md5(given[0].bytes, given[0].len, digest, 16);
     if (w.refusal != 0) {
         printf("no %" PRIu32 "\n", w.refusal);
         return;
     }
     printf("ok ");
-    print_lent(w.written);
+    print_lent(digest, w.written);
     puts(touched_only(w.written) ? "" : " dirty");
 }
 

@@ -38,10 +38,10 @@ def archive():
     return ROOT / "target" / "staticlib" / "libpanel.a"
 
 
-def build(name, library, flags):
-    """host/NAME.c linked with the archive."""
+def build(name, sources, library, flags):
+    """A C program linked with the archive."""
     BUILT.mkdir(parents=True, exist_ok=True)
-    run(["gcc", *WARNINGS, *flags, "-Iinclude", f"host/{name}.c", library, "-o", BUILT / name])
+    run(["gcc", *WARNINGS, *flags, "-Iinclude", *sources, library, "-ldl", "-o", BUILT / name])
     return BUILT / name
 
 

@@ -37,14 +37,15 @@ def said_of(name, section, *given):
 
 def boundary(library):
     """The C test of each exported function, under the sanitizers."""
-    program = harness.build("boundary", library, harness.SANITIZERS)
+    sources = [*sorted((harness.ROOT / "host").glob("boundary*.c")), "host/lend.c"]
+    program = harness.build("boundary", sources, library, harness.SANITIZERS)
     return harness.run([program]).strip().replace("\n", "; ")
 
 
 def main(arguments):
     try:
         library = pathlib.Path(arguments[0]).resolve() if arguments else harness.archive()
-        driver = harness.build("driver", library, ["-O2"])
+        driver = harness.build("driver", ["host/driver.c", "host/lend.c"], library, ["-O2"])
     except harness.Failed as failure:
         print(f"host: FAILED to build: {failure}")
         return 1

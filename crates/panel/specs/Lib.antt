@@ -1,2 +1,3 @@
 -- The definitions that the promises of `panel` cite.
 pub mod Answers
+pub mod Determined

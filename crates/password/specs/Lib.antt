@@ -4,3 +4,4 @@ pub mod Password
 pub mod Inside
 pub mod Laws
 pub mod Examples
+pub mod Determined

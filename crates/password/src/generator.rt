@@ -22,7 +22,9 @@ pub fn put_lower(buf: &mut [u8], seed: &[u8]) -> usize
 {
     let mut i = 0;
     while i < seed.len() {
-        buf[i] = text::kinds::lower(seed[i]);
+        let typed = seed[i];
+        let kept = text::kinds::lower(typed);
+        buf[i] = kept;
         i += 1;
     }
     i

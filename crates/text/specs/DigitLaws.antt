@@ -12,8 +12,9 @@ use lib.Dec.{leb, ltb}
 use lib.Seq.{append-snoc}
 use lib.Arith.{digits-lt, digits-div, digits-mod}
 use borrow.Author.Tests.{lt-ltb, le-ltb, le-leb, lt-leb, leb-true, leb-false, ltb-true, ltb-false}
-use Rattle.text.specs.Tests.{every, either, cases, both}
-use Rattle.text.specs.Kinds.{isDigit, isUpper, lowerOf}
+use Rattle.text.specs.Tests.{every, every-append, every-weaker, either, cases, both}
+use Rattle.text.specs.Kinds.{isDigit, isUpper, isSolid, lowerOf}
+use Rattle.text.specs.KindLaws.{past-space-solid}
 use Rattle.text.specs.Digits.{digitOf, digitsOf, isHex, digitValue, numberAfter, numberOf}
 
 pub value-digit : (b : ℕ) → isDigit b ≡ true → digitValue b ≡ b - 48
@@ -134,3 +135,63 @@ number-lt base n bound (d ∷ s) h e =
     let halves = both (ltb (digitValue d) base) (every (λ b. ltb (digitValue b) base) s) e in
     let small = ltb-true (digitValue d) base (halves .0) in
     rw (pow-succ', ← mul-assoc) (number-lt base (n * base + digitValue d) (bound * base) s (digits-lt h small) (halves .1))
+
+-- the digits of a number are hex digits
+pub digits-hex : (k n : ℕ) → every isHex (digitsOf 16 k n) ≡ true
+unfolding digitsOf every
+digits-hex zero n = refl
+digits-hex (suc k) n =
+    let small = mod-lt n {m = 16} (omega arith) in
+    let last : isHex (digitOf (n % 16)) ≡ true = hex-value (digitOf (n % 16)) ∙ ap (λ (v : ℕ). ltb v 16) (digit-read (n % 16) small) ∙ lt-ltb (n % 16) 16 small in
+    every-append isHex (digitsOf 16 k (n / 16)) (digitOf (n % 16) ∷ []) ∙ ap₂ (λ (a b : Bool). a && (b && true)) (digits-hex k (n / 16)) last
+
+-- a hex digit is no white space
+pub hex-solid : (b : ℕ) → isHex b ≡ true → isSolid b ≡ true
+hex-solid b e =
+    past-space-solid b
+    (cases (leb 33 b) (λ t. leb-true 33 b t) (λ t. absurd (low (leb-false 33 b t))))
+  where
+    low : b < 33 → ⊥
+    low h =
+        let none : isDigit b ≡ false = rw (lt-leb 48 b (omega arith)) in
+        let kept : lowerOf b ≡ b = rw (lt-leb 65 b (omega arith)) in
+        let value = value-low b none (omega arith) in
+        let small = ltb-true (digitValue b) 16 (sym (hex-value b) ∙ e) in
+        omega arith
+
+-- the case of a digit does not matter
+lower-means : (b l : ℕ) → isDigit b ≡ false → lowerOf b ≡ l → digitValue b ≡ cond (leb 97 l && leb l 102) (l - 87) 16
+lower-means b l e f =
+    ap₂ (λ (t : Bool) (m : ℕ). cond t (b - 48) (cond (leb 97 m && leb m 102) (m - 87) 16)) e f
+
+pub lower-value : (b : ℕ) → digitValue (lowerOf b) ≡ digitValue b
+lower-value b = cases (isUpper b) upper (λ e. ap digitValue (ap (λ (t : Bool). cond t (b + 32) b) e))
+  where
+    upper : isUpper b ≡ true → digitValue (lowerOf b) ≡ digitValue b
+    upper e =
+        let halves = both (leb 65 b) (leb b 90) e in
+        let from = leb-true 65 b (halves .0) in
+        let to = leb-true b 90 (halves .1) in
+        let low : lowerOf b ≡ b + 32 = ap (λ (t : Bool). cond t (b + 32) b) e in
+        let kept : lowerOf (b + 32) ≡ b + 32 = rw (le-leb 65 (b + 32) (omega arith), lt-leb (b + 32) 90 (omega arith)) in
+        let one : isDigit (b + 32) ≡ false = rw (le-leb 48 (b + 32) (omega arith), lt-leb (b + 32) 57 (omega arith)) in
+        let two : isDigit b ≡ false = rw (le-leb 48 b (omega arith), lt-leb b 57 (omega arith)) in
+        ap digitValue low ∙ lower-means (b + 32) (b + 32) one kept ∙ sym (lower-means b (b + 32) two low)
+
+pub lower-hex : (b : ℕ) → isHex (lowerOf b) ≡ isHex b
+lower-hex b = hex-value (lowerOf b) ∙ ap (λ (v : ℕ). ltb v 16) (lower-value b) ∙ sym (hex-value b)
+
+pub every-lower-hex : (s : List ℕ) → every isHex (map lowerOf s) ≡ every isHex s
+unfolding every
+every-lower-hex [] = refl
+every-lower-hex (b ∷ s) = ap₂ (λ (x y : Bool). x && y) (lower-hex b) (every-lower-hex s)
+
+pub number-lower : (base n : ℕ) (s : List ℕ) → numberAfter base n (map lowerOf s) ≡ numberAfter base n s
+unfolding numberAfter
+number-lower base n [] = refl
+number-lower base n (b ∷ s) =
+    ap (λ (v : ℕ). numberAfter base (n * base + v) (map lowerOf s)) (lower-value b) ∙ number-lower base (n * base + digitValue b) s
+
+-- hex digits as digits in base 16
+pub hex-digits : (s : List ℕ) → every isHex s ≡ true → every (λ b. ltb (digitValue b) 16) s ≡ true
+hex-digits s e = every-weaker isHex (λ b. ltb (digitValue b) 16) (λ b h. sym (hex-value b) ∙ h) s e

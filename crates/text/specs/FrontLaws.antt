@@ -7,7 +7,8 @@ use native.Mathlib.Numerals.{add-one}
 use lib.ListN.{length, getD, take, drop, set, length-append, length-drop, drop-of-length-le}
 use lib.Seq.{take-all, take-at, drop-at, drop-drop, drop-cons, set-at, set-split, take-suc, append-snoc, length-take-le}
 use borrow.Rule.Slice.PartMut.{midOf, putMid}
-use mathlib.Core.Bool.{Bool, cond}
+use mathlib.Core.Bool.{Bool, true, false, cond}
+use lib.Dec.{leb}
 use borrow.Author.Tests.{le-leb, lt-leb}
 use Rattle.refusal.specs.declared.Refusal.{Refusal}
 use Rattle.refusal.specs.declared.Written.{Written}
@@ -28,6 +29,9 @@ front-front t u b = sym (append-assoc t u _) ∙ ap (λ (l : List ℕ). (t ++ u)
 -- the part from n on, lent as `&mut b[n..]`, is what lies past n
 pub rest-lent : (n : ℕ) (b : List ℕ) → midOf n (length b - n) b ≡ drop n b
 rest-lent n b = take-all (length b - n) (drop n b) (simp length-drop (omega arith))
+
+pub length-rest-lent : (n : ℕ) (b : List ℕ) → length (midOf n (length b - n) b) ≡ length b - n
+length-rest-lent n b = ap length (rest-lent n b) ∙ length-drop n b
 
 -- and it comes back past n
 pub rest-back : (n : ℕ) (b ys : List ℕ) → putMid n (length b - n) b ys ≡ take n b ++ ys
@@ -81,3 +85,11 @@ pub writes-determined : (t b b₁ b₂ : List ℕ) (r₁ r₂ : Written) → Wri
 writes-determined t b b₁ b₂ r₁ r₂ p q =
     let same = p .0 ∙ sym (q .0) in
     (same, p .1 ∙ ap (λ (r : Written). leaves r t b) same ∙ sym (q .1))
+
+-- the bytes that a writer reports are the text
+pub written-front : (t b b′ : List ℕ) (n : ℕ) → Writes t b b′ (Written.Wrote n) → take n b′ ≡ t
+written-front t b b′ n w = ap (take n) (w .1) ∙ take-at t (drop (length t) b) n (count (leb (length t) (length b)) (w .0))
+  where
+    count : (e : Bool) → Written.Wrote n ≡ cond e (Written.Wrote (length t)) (Written.Refused Refusal.BufferShort) → length t ≡ n
+    count true q = cc
+    count false q = let z : _≡_ {A = ℕ} 0 1 = cc in absurd (omega arith)

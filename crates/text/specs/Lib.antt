@@ -4,6 +4,7 @@ pub mod Scan
 pub mod Digits
 pub mod Front
 pub mod Tests
+pub mod KindLaws
 pub mod ScanLaws
 pub mod DigitLaws
 pub mod FrontLaws

@@ -6,10 +6,11 @@ use mathlib.Core.List.{List, [], _∷_, _++_, append-assoc, append-nil}
 use native.Mathlib.Omega.{arith}
 use native.Mathlib.Numerals.{add-one}
 use lib.ListN.{length, getD, take, drop, length-take, drop-of-length-le}
-use lib.Seq.{drop-cons, append-snoc}
-use Rattle.text.specs.Tests.{every, either, cases}
+use lib.Seq.{drop-cons, append-snoc, take-length, drop-length, take-append-seam, drop-append-seam}
+use borrow.Author.Tests.{not-true}
+use Rattle.text.specs.Tests.{every, either, cases, both}
 use Rattle.text.specs.Kinds.{isWhite, isSolid}
-use Rattle.text.specs.Scan.{runOf, piece, parted, tokens}
+use Rattle.text.specs.Scan.{runOf, piece, parted, tokens, unspaced}
 
 -- a run past the end is empty
 pub run-past : (test : ℕ → Bool) (s : List ℕ) (i : ℕ) → length s ≤ i → runOf test (drop i s) ≡ 0
@@ -100,3 +101,50 @@ tokens-some s h =
     piece-some : (t : List ℕ) (ts : List (List ℕ)) → 0 < length t → 0 < length (piece t ++ ts)
     piece-some [] ts h = absurd (omega arith)
     piece-some (b ∷ t) ts h = omega arith
+
+-- a run that nothing ends
+pub run-all : (test : ℕ → Bool) (s : List ℕ) → every test s ≡ true → runOf test s ≡ length s
+unfolding runOf every
+run-all test [] e = refl
+run-all test (b ∷ s) e =
+    let halves = both (test b) (every test s) e in
+    ap (λ (t : Bool). cond t (suc (runOf test s)) 0) (halves .0) ∙ ap suc (run-all test s (halves .1))
+
+-- a run that the byte b ends
+pub run-until : (test : ℕ → Bool) (s : List ℕ) (b : ℕ) (rest : List ℕ) → every test s ≡ true → test b ≡ false → runOf test (s ++ b ∷ rest) ≡ length s
+unfolding runOf every
+run-until test [] b rest e f = ap (λ (t : Bool). cond t (suc (runOf test rest)) 0) f
+run-until test (a ∷ s) b rest e f =
+    let halves = both (test a) (every test s) e in
+    ap (λ (t : Bool). cond t (suc (runOf test (s ++ b ∷ rest))) 0) (halves .0) ∙ ap suc (run-until test s b rest (halves .1) f)
+
+piece-cons : (t : List ℕ) (ts : List (List ℕ)) → 0 < length t → piece t ++ ts ≡ t ∷ ts
+piece-cons [] ts h = absurd (omega arith)
+piece-cons (b ∷ t) ts h = refl
+
+-- solid bytes alone are one token
+pub tokens-one : (s : List ℕ) → every isSolid s ≡ true → 0 < length s → tokens s ≡ s ∷ []
+unfolding parted
+tokens-one s e h =
+    tokens-run s
+    ∙ ap (λ (n : ℕ). piece (take n s) ++ tokens (drop n s)) (run-all isSolid s e)
+    ∙ ap₂ (λ (l r : List ℕ). piece l ++ tokens r) (take-length s) (drop-length s)
+    ∙ piece-cons s [] h
+
+-- solid bytes before a space are the first token
+pub tokens-space : (s rest : List ℕ) → every isSolid s ≡ true → 0 < length s → tokens (s ++ 32 ∷ rest) ≡ s ∷ tokens rest
+unfolding parted
+tokens-space s rest e h =
+    tokens-run (s ++ 32 ∷ rest)
+    ∙ ap (λ (n : ℕ). piece (take n (s ++ 32 ∷ rest)) ++ tokens (drop n (s ++ 32 ∷ rest))) (run-until isSolid s 32 rest e refl)
+    ∙ ap₂ (λ (l r : List ℕ). piece l ++ tokens r) (take-append-seam s (32 ∷ rest)) (drop-append-seam s (32 ∷ rest))
+    ∙ piece-cons s (tokens rest) h
+
+-- without white space nothing is left out
+pub unspaced-solid : (s : List ℕ) → every isSolid s ≡ true → unspaced s ≡ s
+unfolding unspaced every
+unspaced-solid [] e = refl
+unspaced-solid (b ∷ s) e =
+    let halves = both (isSolid b) (every isSolid s) e in
+    ap (λ (t : Bool). cond t (unspaced s) (b ∷ unspaced s)) (not-true (isWhite b) (halves .0))
+    ∙ ap (λ (l : List ℕ). b ∷ l) (unspaced-solid s (halves .1))

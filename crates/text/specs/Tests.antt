@@ -1,6 +1,9 @@
 -- Tests over a list, and laws of tests that several crates cite.
-use mathlib.Core.Path.{_≡_, refl, sym, _∙_, ap}
+use Prim.Native.Nat.{ℕ, zero, suc, _<_, zero-le, suc-le-suc}
+use native.Mathlib.Nat.{le-of-suc-le-suc, not-suc-le-zero}
+use mathlib.Core.Path.{_≡_, refl, sym, _∙_, ap, ap₂}
 use mathlib.Core.Bool.{Bool, true, false, false≢true, cond, _&&_, and-assoc}
+use lib.ListN.{length, getD}
 use mathlib.Core.List.{List, [], _∷_, _++_}
 
 -- each element of the list passes the test
@@ -32,3 +35,23 @@ pub every-append : {A : Type 0} (test : A → Bool) (xs ys : List A) → every t
 unfolding every
 every-append test [] ys = refl
 every-append test (x ∷ xs) ys = ap (λ (t : Bool). test x && t) (every-append test xs ys) ∙ sym (and-assoc (test x) (every test xs) (every test ys))
+
+-- a test that each byte of a text passes, and the test at each place
+pub every-at : (test : ℕ → Bool) (s : List ℕ) → every test s ≡ true → (k : ℕ) → k < length s → test (getD s k 0) ≡ true
+unfolding every
+every-at test [] e k h = absurd (not-suc-le-zero h)
+every-at test (b ∷ s) e zero h = both (test b) (every test s) e .0
+every-at test (b ∷ s) e (suc k) h = every-at test s (both (test b) (every test s) e .1) k (le-of-suc-le-suc h)
+
+pub every-from : (test : ℕ → Bool) (s : List ℕ) → ((k : ℕ) → k < length s → test (getD s k 0) ≡ true) → every test s ≡ true
+unfolding every
+every-from test [] f = refl
+every-from test (b ∷ s) f = ap₂ (λ (x y : Bool). x && y) (f zero (suc-le-suc zero-le)) (every-from test s (λ k h. f (suc k) (suc-le-suc h)))
+
+-- a weaker test
+pub every-weaker : {A : Type 0} (test other : A → Bool) → ((a : A) → test a ≡ true → other a ≡ true) → (s : List A) → every test s ≡ true → every other s ≡ true
+unfolding every
+every-weaker test other f [] e = refl
+every-weaker test other f (a ∷ s) e =
+    let halves = both (test a) (every test s) e in
+    ap₂ (λ (x y : Bool). x && y) (f a (halves .0)) (every-weaker test other f s (halves .1))

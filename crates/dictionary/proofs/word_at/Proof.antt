@@ -1,0 +1,19 @@
+-- `word_at` meets its promise: place p is column p % 8 of row p / 8.
+use Prim.Native.Nat.{_+_, _*_, _/_, _%_, _<_}
+use mathlib.Core.Path.{_≡_, _∙_, ap}
+use native.Mathlib.Omega.{arith}
+use borrow.Author.Needs.{needs}
+use Rattle.dictionary.specs.Dictionary.{packedAt}
+use Rattle.dictionary.proofs.Cells.{row-at}
+use Rattle.dictionary.proofs.word_at.Statement.{statement}
+use Rattle.dictionary.proofs.word_at.Tie as tie
+
+returns : tie.Need-returns
+returns c =
+    let p = c .before .args .place in
+    let column : p % 8 < 8 = omega arith in
+    let same : p / 8 * 8 + p % 8 ≡ p = omega arith in
+    rw (c .row .ensures) (row-at (p / 8) (p % 8) column ∙ ap packedAt same)
+
+pub word-at-spec : {M : Type 1} → statement M
+word-at-spec = tie.close (tie.spec (λ c κs. search needs) (λ c. search needs) (λ c. search needs) returns)

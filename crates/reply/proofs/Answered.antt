@@ -1,0 +1,49 @@
+-- What a reply is read as, by what the tokens are.
+use Prim.Native.Nat.{ℕ, _≤_, _<_}
+use mathlib.Core.Path.{_≡_, refl, sym, _∙_, ap, ap₂}
+use mathlib.Core.Bool.{Bool, true, false, true≢false, false≢true, cond}
+use mathlib.Core.List.{List, [], _∷_, map}
+use lib.Dec.{ltb}
+use lib.ListN.{length, replicate}
+use borrow.Author.Tests.{lt-ltb, le-ltb}
+use Rattle.refusal.specs.declared.Refusal.{Refusal}
+use Rattle.refusal.specs.declared.Reading.{Reading}
+use Rattle.text.specs.Scan.{tokens, unspaced}
+use Rattle.dictionary.specs.declared.Found.{Found}
+use Rattle.dictionary.specs.Dictionary.{foundOf}
+use Rattle.reply.specs.declared.tokens.Six.{Six}
+use Rattle.reply.specs.Reading.{upperText, sixWords, placeOf, foundAfter, wordsReading, hexReading, readingOf}
+use Rattle.reply.specs.Inside.{packedToken, sixOf}
+use Rattle.reply.proofs.Scanned.{sixIs}
+
+six-told : (b : Bool) (ws zs : List ℕ) (six : Six) → six ≡ cond b (sixIs true ws) (sixIs false zs) → six .are ≡ true → (b ≡ true) × (six .words ≡ ws)
+six-told true ws zs six e h = (refl, ap (λ (s : Six). s .words) e)
+six-told false ws zs six e h = absurd (true≢false (sym h ∙ ap (λ (s : Six). s .are) e))
+
+other-told : (b : Bool) (ws zs : List ℕ) (six : Six) → six ≡ cond b (sixIs true ws) (sixIs false zs) → six .are ≡ false → b ≡ false
+other-told true ws zs six e h = absurd (false≢true (sym h ∙ ap (λ (s : Six). s .are) e))
+other-told false ws zs six e h = refl
+
+found-tokens : (ts : List (List ℕ)) → map foundOf (map packedToken ts) ≡ map placeOf (map upperText ts)
+found-tokens [] = refl
+found-tokens (t ∷ ts) = ap (λ (l : List Found). placeOf (upperText t) ∷ l) (found-tokens ts)
+
+pub too-long : (s : List ℕ) → 128 < length s → Reading.Refused Refusal.ReplyLong ≡ readingOf s
+unfolding readingOf
+too-long s h = rw (lt-ltb 128 (length s) h)
+
+module _ (s : List ℕ) (h : length s ≤ 128) (six : Six) (e : six ≡ sixOf (tokens s)) (r : Reading) where
+  pub as-words : six .are ≡ true → r ≡ foundAfter 1 [] (map foundOf (six .words)) → r ≡ readingOf s
+  unfolding readingOf
+  as-words a f =
+      let told = six-told (sixWords (tokens s)) (map packedToken (tokens s)) (replicate 6 0) six e a in
+      f ∙ ap (λ (ws : List ℕ). foundAfter 1 [] (map foundOf ws)) (told .1)
+      ∙ ap (foundAfter 1 []) (found-tokens (tokens s))
+      ∙ sym (ap₂ (λ (a b : Bool). cond a (Reading.Refused Refusal.ReplyLong) (cond b (wordsReading (map upperText (tokens s))) (hexReading (unspaced s)))) (le-ltb 128 (length s) h) (told .0))
+
+  pub as-hex : six .are ≡ false → r ≡ hexReading (unspaced s) → r ≡ readingOf s
+  unfolding readingOf
+  as-hex a f =
+      f
+      ∙ sym (ap₂ (λ (a b : Bool). cond a (Reading.Refused Refusal.ReplyLong) (cond b (wordsReading (map upperText (tokens s))) (hexReading (unspaced s)))) (le-ltb 128 (length s) h)
+      (other-told (sixWords (tokens s)) (map packedToken (tokens s)) (replicate 6 0) six e a))

@@ -1,0 +1,162 @@
+-- Laws of the six words of a password, for the theorems in Laws.
+use Prim.Native.Nat.{ℕ, zero, suc, _+_, _*_, _/_, _%_, _^_, _≤_, _<_}
+use native.Mathlib.Omega.{arith}
+use mathlib.Core.Path.{_≡_, refl, sym, _∙_, ap, ap₂}
+use mathlib.Core.Bool.{Bool, true, false, cond, _&&_}
+use mathlib.Core.List.{List, [], _∷_, _++_, map, append-nil}
+use lib.Dec.{eqb, leb, ltb}
+use lib.ListN.{length, getD, length-map, length-append, List·getD-map}
+use lib.Seq.{ext-getD, append-snoc}
+use borrow.Author.Tests.{le-leb, leb-true, ltb-true}
+use Rattle.refusal.specs.declared.Reading.{Reading}
+use Rattle.text.specs.Kinds.{isLetter, isSolid, upperOf}
+use Rattle.text.specs.KindLaws.{past-space-solid, upper-letter, upper-kept, letter-upper}
+use Rattle.text.specs.Tests.{every, every-at, every-from, both}
+use Rattle.text.specs.Scan.{tokens}
+use Rattle.text.specs.ScanLaws.{tokens-one, tokens-space}
+use Rattle.dictionary.specs.declared.Found.{Found}
+use Rattle.dictionary.specs.Dictionary.{packedAt, lettersOf, wordAt}
+use Rattle.dictionary.specs.Laws.{Spelt, word-upper, word-spelt, letters-at, found-word}
+use Rattle.sixwords.specs.declared.Number.{Number}
+use Rattle.sixwords.specs.Places.{pairSum, joined, placesOf, allPlaces, numberOf}
+use Rattle.sixwords.specs.Laws.{number-places}
+use Rattle.reply.specs.Reading.{isWord, upperText, placeOf, summed, foundAfter}
+use Rattle.reply.specs.Writing.{spacedFrom, spaced, wordsOf}
+
+-- an accepted number's places are places of the dictionary
+pub number-all : (s : List ℕ) (p : ℕ) → numberOf s ≡ Number.Is p → allPlaces s ≡ true
+unfolding numberOf
+number-all s p e = go (allPlaces s) (eqb (pairSum (joined 0 s / 4) % 4) (joined 0 s % 4)) (joined 0 s / 4) e
+  where
+    go : (a b : Bool) (x : ℕ) → cond (a && b) (Number.Is x) Number.SumWrong ≡ Number.Is p → a ≡ true
+    go true b x e = refl
+    go false b x e = let z : _≡_ {A = ℕ} 0 1 = cc in absurd (omega arith)
+
+pub places-all : (p : ℕ) → p < 2 ^ 64 → allPlaces (placesOf p) ≡ true
+places-all p h = number-all (placesOf p) p (number-places p h)
+
+-- the packed words at places have the letters of the words there
+pub letters-places : (ps : List ℕ) → allPlaces ps ≡ true → map lettersOf (map packedAt ps) ≡ map wordAt ps
+unfolding allPlaces
+letters-places [] e = refl
+letters-places (i ∷ ps) e =
+    let halves = both (ltb i 2048) (allPlaces ps) e in
+    ap₂ (λ (w : List ℕ) (ws : List (List ℕ)). w ∷ ws) (letters-at i (ltb-true i 2048 (halves .0))) (letters-places ps (halves .1))
+
+-- so six words spelt from the table are the text of the password
+pub words-text : (p : ℕ) (packed : List ℕ) → p < 2 ^ 64 → packed ≡ map packedAt (placesOf p) → spaced (map lettersOf packed) ≡ wordsOf p
+words-text p packed h e =
+    ap (λ (l : List ℕ). spaced (map lettersOf l)) e ∙ ap spaced (letters-places (placesOf p) (places-all p h))
+
+-- what makes a token a word
+pub word-parts : (t : List ℕ) → isWord t ≡ true → (0 < length t) × (length t ≤ 4) × (every isLetter t ≡ true)
+unfolding isWord
+word-parts t e =
+    let outer = both (leb 1 (length t) && leb (length t) 4) (every isLetter t) e in
+    let inner = both (leb 1 (length t)) (leb (length t) 4) (outer .0) in
+    (leb-true 1 (length t) (inner .0), leb-true (length t) 4 (inner .1), outer .1)
+
+-- such a token in upper case is spelt as words of the dictionary are
+pub spelt-token : (t : List ℕ) → isWord t ≡ true → Spelt (upperText t)
+spelt-token t e =
+    let parts = word-parts t e in
+    record {
+      some = rw (length-map t upperOf) (parts .0);
+      few = rw (length-map t upperOf) (parts .1);
+      bytes = λ k h.
+          let within : k < length t = rw (length-map t upperOf) at h in
+          let upper = letter-upper (getD t k 0) (every-at isLetter t (parts .2) k within) in
+          rw (List·getD-map upperOf t k 0) (omega arith, omega arith);
+    }
+
+-- the words of the dictionary are words, solid, and in upper case
+module _ (i : ℕ) (h : i < 2048) where
+  pub dictionary-word : isWord (wordAt i) ≡ true
+  unfolding isWord
+  dictionary-word =
+      let spelt = word-spelt i h in
+      let letters : every isLetter (wordAt i) ≡ true = every-from isLetter (wordAt i) (λ k l. let u = word-upper i h k l in upper-letter (getD (wordAt i) k 0) (u .0) (u .1)) in
+      ap₂ (λ (a b : Bool). a && b) (ap₂ (λ (a b : Bool). a && b) (le-leb 1 (length (wordAt i)) (spelt .some)) (le-leb (length (wordAt i)) 4 (spelt .few))) letters
+
+  pub dictionary-solid : every isSolid (wordAt i) ≡ true
+  dictionary-solid = every-from isSolid (wordAt i) (λ k l. let u = word-upper i h k l in past-space-solid (getD (wordAt i) k 0) (omega arith))
+
+  pub dictionary-upper : upperText (wordAt i) ≡ wordAt i
+  dictionary-upper =
+      ext-getD 0 (upperText (wordAt i)) (wordAt i) (length-map (wordAt i) upperOf)
+      (λ k l. List·getD-map upperOf (wordAt i) k 0 ∙ upper-kept (getD (wordAt i) k 0) (word-upper i h k (rw (length-map (wordAt i) upperOf) at l) .1))
+
+  pub dictionary-place : placeOf (wordAt i) ≡ Found.At i
+  dictionary-place = found-word (wordAt i) (word-spelt i h) i .1 (h, refl)
+
+-- the same of a list of places
+pub places-words : (ps : List ℕ) → allPlaces ps ≡ true → every isWord (map wordAt ps) ≡ true
+unfolding allPlaces every
+places-words [] e = refl
+places-words (i ∷ ps) e =
+    let halves = both (ltb i 2048) (allPlaces ps) e in
+    ap₂ (λ (a b : Bool). a && b) (dictionary-word i (ltb-true i 2048 (halves .0))) (places-words ps (halves .1))
+
+pub places-upper : (ps : List ℕ) → allPlaces ps ≡ true → map upperText (map wordAt ps) ≡ map wordAt ps
+unfolding allPlaces
+places-upper [] e = refl
+places-upper (i ∷ ps) e =
+    let halves = both (ltb i 2048) (allPlaces ps) e in
+    ap₂ (λ (w : List ℕ) (ws : List (List ℕ)). w ∷ ws) (dictionary-upper i (ltb-true i 2048 (halves .0))) (places-upper ps (halves .1))
+
+pub places-found : (ps : List ℕ) → allPlaces ps ≡ true → map placeOf (map wordAt ps) ≡ map Found.At ps
+unfolding allPlaces
+places-found [] e = refl
+places-found (i ∷ ps) e =
+    let halves = both (ltb i 2048) (allPlaces ps) e in
+    ap₂ (λ (w : Found) (ws : List Found). w ∷ ws) (dictionary-place i (ltb-true i 2048 (halves .0))) (places-found ps (halves .1))
+
+-- words between spaces are the tokens
+pub tokens-spaced : (i : ℕ) (ps : List ℕ) → i < 2048 → allPlaces ps ≡ true → tokens (spacedFrom (wordAt i) (map wordAt ps)) ≡ wordAt i ∷ map wordAt ps
+unfolding allPlaces spacedFrom
+tokens-spaced i [] h e = tokens-one (wordAt i) (dictionary-solid i h) (word-spelt i h .some)
+tokens-spaced i (j ∷ ps) h e =
+    let halves = both (ltb j 2048) (allPlaces ps) e in
+    tokens-space (wordAt i) (spacedFrom (wordAt j) (map wordAt ps)) (dictionary-solid i h) (word-spelt i h .some)
+    ∙ ap (λ (ts : List (List ℕ)). wordAt i ∷ ts) (tokens-spaced j ps (ltb-true j 2048 (halves .0)) (halves .1))
+
+pub length-spaced : (i : ℕ) (ps : List ℕ) → i < 2048 → allPlaces ps ≡ true → length (spacedFrom (wordAt i) (map wordAt ps)) ≤ 4 + 5 * length ps
+unfolding allPlaces spacedFrom
+length-spaced i [] h e = omega (arith, word-spelt i h .few)
+length-spaced i (j ∷ ps) h e =
+    let halves = both (ltb j 2048) (allPlaces ps) e in
+    let rest = length-spaced j ps (ltb-true j 2048 (halves .0)) (halves .1) in
+    simp length-append (omega (arith, word-spelt i h .few, rest))
+
+-- words that are all found are read by their places
+pub found-all : (k : ℕ) (known ps : List ℕ) → foundAfter k known (map Found.At ps) ≡ summed (numberOf (known ++ ps))
+unfolding foundAfter
+found-all k known [] = ap (λ (l : List ℕ). summed (numberOf l)) (sym (append-nil known))
+found-all k known (i ∷ ps) = found-all (suc k) (known ++ i ∷ []) ps ∙ ap (λ (l : List ℕ). summed (numberOf l)) (append-snoc known i ps)
+
+summed-is : (n : Number) (p : ℕ) → summed n ≡ Reading.Password p → n ≡ Number.Is p
+summed-is (Number.Is q) p e = cc
+summed-is Number.SumWrong p e = let z : _≡_ {A = ℕ} 0 1 = cc in absurd (omega arith)
+
+-- and a password is read only from such
+pub found-password : (k : ℕ) (known : List ℕ) (found : List Found) (p : ℕ) → foundAfter k known found ≡ Reading.Password p →
+    (ps : List ℕ) × (found ≡ map Found.At ps) × (numberOf (known ++ ps) ≡ Number.Is p)
+unfolding foundAfter
+found-password k known [] p e = ([], refl, ap numberOf (append-nil known) ∙ summed-is (numberOf known) p e)
+found-password k known (Found.At i ∷ found) p e =
+    let later = found-password (suc k) (known ++ i ∷ []) found p e in
+    (i ∷ later .0, ap (λ (l : List Found). Found.At i ∷ l) (later .1), ap numberOf (sym (append-snoc known i (later .0))) ∙ later .2)
+found-password k known (Found.Nothing ∷ found) p e = let z : _≡_ {A = ℕ} 0 1 = cc in absurd (omega arith)
+
+-- tokens that are found at places are the words there
+pub found-tokens : (ts : List (List ℕ)) (ps : List ℕ) → every isWord ts ≡ true → map placeOf (map upperText ts) ≡ map Found.At ps →
+    map upperText ts ≡ map wordAt ps
+unfolding every
+found-tokens [] [] g e = refl
+found-tokens [] (i ∷ ps) g e = let z : _≡_ {A = ℕ} 0 1 = cc in absurd (omega arith)
+found-tokens (t ∷ ts) [] g e = let z : _≡_ {A = ℕ} 0 1 = cc in absurd (omega arith)
+found-tokens (t ∷ ts) (i ∷ ps) g e =
+    let halves = both (isWord t) (every isWord ts) g in
+    let first : placeOf (upperText t) ≡ Found.At i = cc in
+    let rest : map placeOf (map upperText ts) ≡ map Found.At ps = cc in
+    ap₂ (λ (w : List ℕ) (ws : List (List ℕ)). w ∷ ws) (sym (found-word (upperText t) (spelt-token t (halves .0)) i .0 first .1)) (found-tokens ts ps (halves .1) rest)

@@ -1,0 +1,2 @@
+-- Lemmas of this crate's proofs.
+mod Six

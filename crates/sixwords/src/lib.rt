@@ -1,0 +1,61 @@
+// A 64-bit number as six places of the dictionary, and back: document 01, 'Six words and hex'.
+ghost use mathlib.Core.Path.{_≡_};
+ghost use Rattle.sixwords.specs.Places.{pairSum, placesOf, allPlaces, numberOf};
+
+// The number that six places stand for, or that the pair sum after it is wrong.
+pub enum Number {
+    Is(u64),
+    SumWrong,
+}
+
+// The six places of a number, most significant first.
+pub fn places_of(p: u64) -> [usize; 6]
+    ensures { λ r. ⌜ r ≡ placesOf p ⌝ }
+{
+    let sum = pair_sum(p) % 4;
+    [
+        (p >> 53) as usize,
+        ((p >> 42) % 2048) as usize,
+        ((p >> 31) % 2048) as usize,
+        ((p >> 20) % 2048) as usize,
+        ((p >> 9) % 2048) as usize,
+        (p % 512 * 4 + sum) as usize,
+    ]
+}
+
+// The number of six places. A place from 2,048 on is answered as a wrong sum.
+pub fn number_of(places: [usize; 6]) -> Number
+    ensures { λ r. ⌜ r ≡ numberOf places ⌝ }
+{
+    if !all_places(places) {
+        return Number::SumWrong;
+    }
+    let first = (places[0] * 2048 + places[1]) * 2048 + places[2];
+    let rest = (places[3] * 2048 + places[4]) * 2048 + places[5];
+    let p = (first * 2147483648 + rest / 4) as u64;
+    if pair_sum(p) % 4 == (rest % 4) as u64 {
+        Number::Is(p)
+    } else {
+        Number::SumWrong
+    }
+}
+
+// Each of the six is below 2,048.
+fn all_places(s: [usize; 6]) -> bool
+    ensures { λ r. ⌜ r ≡ allPlaces s ⌝ }
+{
+    (s[0] < 2048) & (s[1] < 2048) & (s[2] < 2048) & (s[3] < 2048) & (s[4] < 2048) & (s[5] < 2048)
+}
+
+// The 32 pairs of bits of a number, added.
+fn pair_sum(p: u64) -> u64
+    ensures { λ r. ⌜ r ≡ pairSum p ⌝ }
+{
+    let mut rest = p;
+    let mut sum = 0;
+    for _ in 0..32u32 {
+        sum += rest % 4;
+        rest = rest / 4;
+    }
+    sum
+}

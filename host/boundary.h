@@ -1,0 +1,38 @@
+/* What the parts of the boundary test share. */
+#ifndef BOUNDARY_H
+#define BOUNDARY_H
+
+#include "lift.h" /* first: it needs no other header */
+
+#include <stdbool.h>
+#include <string.h>
+
+#include "lend.h"
+
+enum { SIDES = 2 };
+
+void check(bool holds, const char *what, const char *file, int line);
+#define CHECK(claim) check(claim, #claim, __FILE__, __LINE__)
+
+/* Prints how many checks of a function there were. */
+void done(const char *function);
+
+/* A text to lend for reading: on side 0 it ends at a closed page, on side 1
+ * it starts at one. */
+uint8_t *text_at(int side, int field, const void *bytes, size_t len);
+
+/* A region longer than 32 bits can say: a length cut to 32 bits would be `low`.
+ * unmap gives it back. */
+uint8_t *beyond_32_bits(size_t low, size_t *len);
+void unmap(uint8_t *region, size_t len);
+
+/* What was answered, with nothing touched that shouldn't be. */
+bool wrote(lift_written w, size_t written);
+bool refused(lift_written w, uint32_t number);
+bool reads(lift_reading r, uint64_t password);
+bool refuses(lift_reading r, uint32_t number, uint32_t place);
+
+/* The parts. */
+void check_passwords(void);
+
+#endif
