@@ -1,14 +1,15 @@
 -- `put_challenge` meets its promise: the opening and the name, the count, the seed, each into the rest.
 use borrow.Author.Needs.{needs}
-use Prim.Native.Nat.{ℕ, _+_, _≤_}
+use Prim.Native.Nat.{ℕ, _+_, _-_, _≤_}
 use mathlib.Core.Path.{_≡_, refl, sym, ap}
 use mathlib.Core.List.{List, [], _∷_, _++_, map, append-assoc}
 use native.Mathlib.Omega.{arith}
-use lib.ListN.{length, length-map, length-append, length-take, length-drop}
+use lib.ListN.{length, length-map, length-append}
+use borrow.Rule.Slice.PartMut.{putMid, same-len-mid}
 use Rattle.text.specs.Kinds.{lowerOf}
 use Rattle.text.specs.Quoted.{codes}
 use Rattle.text.specs.Front.{Put}
-use Rattle.text.specs.FrontLaws.{then-put}
+use Rattle.text.specs.FrontLaws.{then-put, length-rest-lent}
 use Rattle.challenge.specs.Counts.{widthOf, decimalOf}
 use Rattle.challenge.specs.Challenges.{opening, algorithm, challengeText}
 use Rattle.challenge.specs.Laws.{length-decimal}
@@ -37,9 +38,11 @@ length-count n = simp length-append (omega (arith, length-decimal n))
 -- and after the count for the seed
 after-count : (c : tie.After-slice-known3) →
     let head = c .before .before .before .before .before .before in
-    head .put-head .result + c .before .before .put-count-space .result + length (head .before .before .before .before .args .seed .now) + 1 ≤ length (head .put-head .last .0)
+    head .put-head .result + c .before .before .put-count-space .result + length (head .before .before .before .before .args .seed .now) + 1
+    ≤ length (putMid (head .put-head .result) (length (head .put-head .last .0) - head .put-head .result) (head .put-head .last .0) (c .before .before .put-count-space .last .0))
 after-count c =
     let head = c .before .before .before .before .before .before in
+    let whole = same-len-mid (head .put-head .result) (length (head .put-head .last .0) - head .put-head .result) (head .put-head .last .0) (c .before .before .put-count-space .last .0) (c .before .before .put-count-space .kept .0) in
     omega (arith, after-head head, length-count (head .before .before .before .before .args .count), c .before .before .put-count-space .ensures .0)
 
 returns : tie.Need-returns
@@ -61,12 +64,12 @@ put-challenge-spec =
     (λ c. omega (arith, after-head (c .before .before)))
     (λ c. omega (arith, after-head (c .before .before)))
     (λ c. search needs)
-    (λ c κs. simp (length-take, length-drop) (omega (arith, after-head (c .before .before .before))))
+    (λ c κs. rw length-rest-lent (omega (arith, after-head (c .before .before .before))))
     (λ c. omega (arith, after-count c))
-    (λ c. ?)
-    (λ c. ?)
+    (λ c. omega (arith, after-count c))
+    (λ c. omega (arith, after-count c))
     (λ c. search needs)
-    (λ c κs. ?)
-    (λ c. ?)
+    (λ c κs. rw length-rest-lent (omega (arith, after-count (c .before))))
+    (λ c. omega (arith, after-count (c .before .before .before .before), c .before .before .put-seed .ensures .0, length-append (map lowerOf (c .before .before .before .before .before .before .before .before .before .before .before .before .before .before .args .seed .now)) (10 ∷ []), length-map (c .before .before .before .before .before .before .before .before .before .before .before .before .before .before .args .seed .now) lowerOf))
     (λ c. search needs)
     returns)

@@ -44,19 +44,35 @@ seed-good c = sym (c .before .before .check-seed .ensures) ∙ c .enum-told .giv
 width-small : (c : tie.After-width) → c .width .result ≤ 4
 width-small c = omega (arith, c .width .ensures, width-few (c .before .before .before .before .before .before .before .args .count) .1)
 
+returns-3 : tie.Need-returns-3
+returns-3 c =
+    let else1 = c .before .before in
+    let a = else1 .before .before .before .before .before .before .args in
+    (short (a .seed .now) (a .count) (length (a .buf .now)) (seed-good (else1 .before)) (else1 .if1 .left) (omega (arith, c .before .width .ensures, c .if2 .taken)), refl)
+
+returns-4 : tie.Need-returns-4
+returns-4 c =
+    let else2 = c .before .before .before .before in
+    let else1 = else2 .before .before in
+    let a = else1 .before .before .before .before .before .before .args in (
+      fits (a .seed .now) (a .count) (length (a .buf .now)) (seed-good (else1 .before)) _ (else1 .if1 .left) (omega (arith, else2 .before .width .ensures, else2 .if2 .left))
+          (c .before .before .put-challenge .ensures .0),
+      c .before .before .put-challenge .ensures .1,
+    )
+
 pub write-spec : {M : Type 1} → statement M
 write-spec =
     tie.close
     (tie.spec
     (λ c κs. search needs)
     (λ c. search needs)
-    (λ c. ?)
+    (λ c. (refused-seed _ _ _ _ (sym (c .before .before .before .check-seed .ensures) ∙ c .before .why .given .1), refl))
     (λ c. search needs)
-    (λ c. ?)
+    (λ c. (refused-count _ _ _ (seed-good (c .before)) (c .if1 .taken), refl))
     (λ c κs. search needs)
     (λ c. omega (arith, width-small c))
     (λ c. omega (arith, width-small c))
-    (λ c. ?)
+    returns-3
     (λ c κs. search needs)
     (λ c. search needs)
-    (λ c. ?))
+    returns-4)
