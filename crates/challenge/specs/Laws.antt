@@ -58,10 +58,10 @@ unfolding nextAt
 next-within text at h = run-ends-within isBlank text (endOf text at) (token-within text at h)
 
 -- a test holds of each byte exactly if its run goes to the end
-pub run-every : (test : ℕ → Bool) (s : List ℕ) → eqb (runOf test s) (length s) ≡ every test s
+pub run-whole : (test : ℕ → Bool) (s : List ℕ) → eqb (runOf test s) (length s) ≡ every test s
 unfolding runOf every
-run-every test [] = refl
-run-every test (b ∷ s) = one-more (test b) (every test s) (runOf test s) (length s) (run-every test s)
+run-whole test [] = refl
+run-whole test (b ∷ s) = one-more (test b) (every test s) (runOf test s) (length s) (run-whole test s)
   where
     one-more : (t p : Bool) (n m : ℕ) → eqb n m ≡ p → eqb (cond t (suc n) 0) (suc m) ≡ (t && p)
     one-more true p n m e = eqb·suc-suc n m ∙ e
@@ -173,3 +173,38 @@ length-decimal n = length-digits 10 (widthOf n) n
 pub length-challenge : (seed : List ℕ) (count : ℕ) → length (challengeText seed count) ≡ widthOf count + length seed + 10
 unfolding challengeText opening algorithm codes
 length-challenge seed count = simp (length-append, length-map) (omega (arith, length-decimal count))
+
+-- ---- the reader's answers, one for each way through the steps
+
+module _ (text : List ℕ) where
+  pub stop1 : same (take 4 text) opening ≡ false → challengeOf text ≡ Challenge.Refused Refusal.OpeningWrong
+  unfolding challengeOf
+  stop1 e = rw e
+
+  module _ (e1 : same (take 4 text) opening ≡ true) where
+    pub stop2 : same (tokenAt text 4) algorithm ≡ false → challengeOf text ≡ Challenge.Refused Refusal.AlgorithmUnknown
+    unfolding challengeOf
+    stop2 e = rw (e1, e)
+
+    module _ (e2 : same (tokenAt text 4) algorithm ≡ true) where
+      pub stop3 : isCount (tokenAt text (countAt text)) ≡ false → challengeOf text ≡ Challenge.Refused Refusal.CountUnread
+      unfolding challengeOf
+      stop3 e = rw (e1, e2, e)
+
+      module _ (e3 : isCount (tokenAt text (countAt text)) ≡ true) where
+        pub stop4 : (why : Refusal) → seedChecked (tokenAt text (seedAt text)) ≡ Checked.Refused why → challengeOf text ≡ Challenge.Refused why
+        unfolding challengeOf
+        stop4 why e = rw (e1, e2, e3, e)
+
+        module _ (e4 : seedChecked (tokenAt text (seedAt text)) ≡ Checked.Good) where
+          pub stop5 : terminated (drop (endOf text (seedAt text)) text) ≡ false → challengeOf text ≡ Challenge.Refused Refusal.SeedUnended
+          unfolding challengeOf
+          stop5 e = rw (e1, e2, e3, e4, e)
+
+          pub all-good : terminated (drop (endOf text (seedAt text)) text) ≡ true → challengeOf text ≡ found text
+          unfolding challengeOf
+          all-good e = rw (e1, e2, e3, e4, e)
+
+  pub found-is : (n s l : ℕ) → numberOf 10 (tokenAt text (countAt text)) ≡ n → seedAt text ≡ s → length (tokenAt text (seedAt text)) ≡ l
+      → Challenge.Read n s l (s + l + 1) ≡ found text
+  found-is n s l p q r = cc

@@ -3,3 +3,5 @@ pub mod Counts
 pub mod Challenges
 pub mod Inside
 pub mod Laws
+pub mod ReadBack
+pub mod Examples

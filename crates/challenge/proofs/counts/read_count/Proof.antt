@@ -14,14 +14,14 @@ use Rattle.text.specs.Digits.{numberOf}
 use Rattle.challenge.specs.declared.counts.Counted.{Counted}
 use Rattle.challenge.specs.Counts.{leadingZero, isCount}
 use Rattle.challenge.specs.Inside.{countedOf}
-use Rattle.challenge.specs.Laws.{run-every, count-digits}
+use Rattle.challenge.specs.Laws.{run-whole, count-digits}
 use Rattle.challenge.proofs.counts.read_count.Statement.{statement}
 use Rattle.challenge.proofs.counts.read_count.Tie as tie
 
 -- what the code tests of a token that is not empty
 tested : (t : List ℕ) (d : ℕ) → 1 ≤ length t → d ≡ runOf isDigit t → (leb (length t) 4 && eqb d (length t) && not (leadingZero t)) ≡ isCount t
 unfolding isCount
-tested t d h e = rw (e, run-every isDigit t, le-leb 1 (length t) h)
+tested t d h e = rw (e, run-whole isDigit t, le-leb 1 (length t) h)
 
 counted : (t : List ℕ) (n : ℕ) → isCount t ≡ true → n ≡ numberOf 10 t → Counted.Is n ≡ countedOf t
 counted t n e f = rw e (ap Counted.Is f)

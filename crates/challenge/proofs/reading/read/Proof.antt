@@ -15,8 +15,8 @@ use Rattle.challenge.specs.declared.counts.Counted.{Counted}
 use Rattle.challenge.specs.Counts.{isCount}
 use Rattle.challenge.specs.Inside.{countedOf}
 use Rattle.challenge.specs.Challenges.{opening, algorithm, same, tokenAt, endOf, nextAt, countAt, seedAt, terminated}
-use Rattle.challenge.specs.Laws.{opened-long, next-within, token-within}
-use Rattle.challenge.proofs.Steps.{is-read, is-unread, stop1, stop2, stop3, stop4, stop5, all-good, found-is}
+use Rattle.challenge.specs.Laws.{opened-long, next-within, token-within, stop1, stop2, stop3, stop4, stop5, all-good, found-is}
+use Rattle.challenge.proofs.Steps.{is-read, is-unread}
 use Rattle.challenge.proofs.reading.read.Statement.{statement}
 use Rattle.challenge.proofs.reading.read.Tie as tie
 
