@@ -25,6 +25,7 @@ pub examples : map said (
     ∷ (codes "otp-md5 0487 dog2" ++ newline)
     ∷ (codes "otp-md5 1 SixteenLettersAA" ++ newline)
     ∷ (codes "otp-md5 1 SeventeenLettersA" ++ newline)
+    ∷ (codes "otp-md5 1 _eventeenLettersA" ++ newline)
     ∷ (codes "otp-md5 1 Length_Okay" ++ newline)
     ∷ codes "otp-md5 99 A Seed"
     ∷ [])
@@ -32,6 +33,7 @@ pub examples : map said (
     ∷ (Challenge.Refused Refusal.SeedUnended, [])
     ∷ (Challenge.Refused Refusal.CountUnread, [])
     ∷ (Challenge.Read 1 10 16 27, codes "SixteenLettersAA")
+    ∷ (Challenge.Refused Refusal.SeedLength, [])
     ∷ (Challenge.Refused Refusal.SeedLength, [])
     ∷ (Challenge.Refused Refusal.SeedCharacter, [])
     ∷ (Challenge.Read 99 11 1 13, codes "A")

@@ -5,3 +5,4 @@ pub mod Inside
 pub mod Laws
 pub mod ReadBack
 pub mod Examples
+pub mod Determined
