@@ -67,9 +67,32 @@ bool refuses(lift_reading r, uint32_t number, uint32_t place)
     return r.refusal == number && r.place == place && r.password == 0;
 }
 
+void check_writer(lift_written (*write)(uint64_t, uint8_t *, size_t),
+                         uint64_t password, const char *text)
+{
+    size_t len = strlen(text), large_len;
+    for (size_t room = 0; room <= len + 8; room++) {
+        uint8_t *buf = lent();
+        lift_written w = write(password, buf, room);
+        CHECK(room < len ? refused(w, 40) : wrote(w, len));
+        CHECK(room < len || memcmp(buf, text, len) == 0);
+    }
+    lent();
+    CHECK(refused(write(password, NULL, 0), 40));
+    for (int side = 0; side < SIDES; side++) {
+        uint8_t *buf = side == 0 ? last_of(0, len) : first_of(0);
+        CHECK(write(password, buf, len).written == len && memcmp(buf, text, len) == 0);
+    }
+    uint8_t *large = beyond_32_bits(0, &large_len);
+    CHECK(write(password, large, large_len).written == len);
+    CHECK(memcmp(large, text, len) == 0 && large[len] == 0);
+    unmap(large, large_len);
+}
+
 int main(void)
 {
     make_fields();
     check_passwords();
+    check_replies();
     return 0;
 }

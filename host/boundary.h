@@ -32,7 +32,12 @@ bool refused(lift_written w, uint32_t number);
 bool reads(lift_reading r, uint64_t password);
 bool refuses(lift_reading r, uint32_t number, uint32_t place);
 
+/* A writer at every room, past its text's length; only that text is touched. */
+void check_writer(lift_written (*write)(uint64_t, uint8_t *, size_t),
+                  uint64_t password, const char *text);
+
 /* The parts. */
 void check_passwords(void);
+void check_replies(void);
 
 #endif

@@ -53,6 +53,18 @@ static void print_lent(const uint8_t *buf, size_t written)
     print_hex(buf, written <= MOST_ROOM ? written : 0);
 }
 
+static void print_written(const uint8_t *buf, lift_written w)
+{
+    bool clean = touched_only(w.written) && (w.refusal == 0 || w.written == 0);
+    if (w.refusal == 0) {
+        printf("ok %zu ", w.written);
+        print_lent(buf, w.written);
+    } else {
+        printf("no %" PRIu32, w.refusal);
+    }
+    puts(clean ? " clean" : " dirty");
+}
+
 static void answer_md5(const word *given)
 {
     uint8_t *digest = lent();
@@ -72,9 +84,29 @@ static void answer_gen(const word *given)
                                 given[1].len, (uint32_t)given[2].number));
 }
 
+static void answer_read(const word *given)
+{
+    print_reading(lift_read_reply(given[0].bytes, given[0].len));
+}
+
+static void answer_hex(const word *given)
+{
+    uint8_t *buf = lent();
+    print_written(buf, lift_write_hex(given[0].number, buf, given[1].number));
+}
+
+static void answer_words(const word *given)
+{
+    uint8_t *buf = lent();
+    print_written(buf, lift_write_words(given[0].number, buf, given[1].number));
+}
+
 static const call calls[] = {
     {"md5", "t", answer_md5},
     {"gen", "ttn", answer_gen},
+    {"read", "t", answer_read},
+    {"hex", "pr", answer_hex},
+    {"words", "pr", answer_words},
 };
 
 static int digit(char c)

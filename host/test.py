@@ -11,7 +11,7 @@ import time
 sys.dont_write_bytecode = True
 
 import harness  # noqa: E402
-from sections import paper, passwords, selftest  # noqa: E402
+from sections import paper, passwords, replies, selftest  # noqa: E402
 
 SECTIONS = [
     ("comparison can fail", selftest.comparison_can_fail),
@@ -21,6 +21,10 @@ SECTIONS = [
     ("MD5 at random", passwords.md5_at_random),
     ("generator at random", passwords.generator_at_random),
     ("lines that are no call", passwords.lines_that_are_no_call),
+    ("Appendix C as words and hex", replies.appendix_c),
+    ("every word at each place", replies.every_word),
+    ("replies at random and damaged", replies.replies_at_random),
+    ("words and hex at every room", replies.writers_at_every_room),
 ]
 
 

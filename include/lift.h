@@ -63,6 +63,29 @@ lift_reading lift_password(const uint8_t *phrase, size_t phrase_len,
                            const uint8_t *seed, size_t seed_len,
                            uint32_t count);
 
+/* Reads a reply: six words or sixteen hex digits, in either case, between
+ * spaces, tabs, carriage returns and newlines. Six tokens of one to four
+ * letters are words, even where they could be hex.
+ *   30  text_len is over 128
+ *   31  a word is not in the dictionary; `place` is that of the first such
+ *   32  the words are known, but their check sum is wrong
+ *   33  neither six words nor sixteen digits */
+lift_reading lift_read_reply(const uint8_t *text, size_t text_len);
+
+/* Writes a password as 16 lower-case hex digits to buf[0 .. 16].
+ *   40  buf_len is under 16 */
+lift_written lift_write_hex(uint64_t password, uint8_t *buf, size_t buf_len);
+
+/* Writes a password as six upper-case words with a space between, 11 to 29
+ * bytes, to the front of buf.
+ *   40  buf_len is under the length of this very text */
+lift_written lift_write_words(uint64_t password, uint8_t *buf, size_t buf_len);
+
+/* Eight bytes as a password, the first most significant, and back. Neither
+ * refuses; bytes[0 .. 8] has to be there. */
+uint64_t lift_password_of(const uint8_t bytes[8]);
+void lift_bytes_of(uint64_t password, uint8_t bytes[8]);
+
 #ifdef __cplusplus
 }
 #endif

@@ -1,4 +1,8 @@
 -- An answer laid out for C: the value and 0, or zeros, the refusal's number and 31's place.
+use Prim.Native.Nat.{ℕ}
+use mathlib.Core.Path.{_≡_}
+use mathlib.Core.List.{List}
+use Rattle.text.specs.Front.{leaves}
 use Rattle.refusal.specs.declared.Reading.{Reading}
 use Rattle.refusal.specs.declared.Written.{Written}
 use Rattle.refusal.specs.Numbers.{listingOf}
@@ -12,3 +16,8 @@ readingRow (Reading.Refused why) = record { password = 0; refusal = listingOf wh
 abbrev pub writtenRow : Written → LiftWritten
 writtenRow (Written.Wrote n) = record { written = n; refusal = 0 }
 writtenRow (Written.Refused why) = record { written = 0; refusal = listingOf why .0 }
+
+-- The promise of a writer for C: where the definition's answer is a, on a text t and a buffer b, it
+-- answers r, which is a laid out, and leaves b′.
+abbrev pub Reported : Written → List ℕ → List ℕ → List ℕ → LiftWritten → Type 0
+Reported a t b b′ r = (r ≡ writtenRow a) × (b′ ≡ leaves a t b)

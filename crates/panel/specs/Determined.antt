@@ -2,21 +2,24 @@
 use Prim.Native.Nat.{ℕ}
 use mathlib.Core.Path.{_≡_, sym, _∙_}
 use mathlib.Core.List.{List}
-use lib.ListN.{length}
-use Rattle.text.specs.Front.{leaves}
-use Rattle.md5.specs.Md5.{md5, digestOf}
-use Rattle.password.specs.Password.{Algorithm, generated}
+use Rattle.refusal.specs.declared.Reading.{Reading}
+use Rattle.refusal.specs.declared.Written.{Written}
+use Rattle.password.specs.Password.{numberOf, bytesOf}
 use Rattle.panel.specs.declared.answers.LiftReading.{LiftReading}
 use Rattle.panel.specs.declared.answers.LiftWritten.{LiftWritten}
-use Rattle.panel.specs.Answers.{readingRow, writtenRow}
+use Rattle.panel.specs.Answers.{readingRow, Reported}
 
-pub lift-md5-determined : (m b b₁ b₂ : List ℕ) (r s : LiftWritten)
-    → r ≡ writtenRow (digestOf m (length b)) → b₁ ≡ leaves (digestOf m (length b)) (md5 m) b
-    → s ≡ writtenRow (digestOf m (length b)) → b₂ ≡ leaves (digestOf m (length b)) (md5 m) b
-    → (r ≡ s) × (b₁ ≡ b₂)
-lift-md5-determined m b b₁ b₂ r s p e q f = (p ∙ sym q, e ∙ sym f)
+-- lift_password and lift_read_reply, with the definition's answer a
+pub reading-determined : (a : Reading) (r s : LiftReading) → r ≡ readingRow a → s ≡ readingRow a → r ≡ s
+reading-determined a r s p q = p ∙ sym q
 
-pub lift-password-determined : (phrase seed : List ℕ) (count : ℕ) (r s : LiftReading)
-    → r ≡ readingRow (generated Algorithm.md5 phrase seed count)
-    → s ≡ readingRow (generated Algorithm.md5 phrase seed count) → r ≡ s
-lift-password-determined phrase seed count r s p q = p ∙ sym q
+-- lift_md5, lift_write_hex and lift_write_words, with the definition's answer a and text t
+pub writer-determined : (a : Written) (t b b₁ b₂ : List ℕ) (r s : LiftWritten)
+    → Reported a t b b₁ r → Reported a t b b₂ s → (r ≡ s) × (b₁ ≡ b₂)
+writer-determined a t b b₁ b₂ r s p q = (p .0 ∙ sym (q .0), p .1 ∙ sym (q .1))
+
+pub password-of-determined : (bytes : List ℕ) (r s : ℕ) → r ≡ numberOf bytes → s ≡ numberOf bytes → r ≡ s
+password-of-determined bytes r s p q = p ∙ sym q
+
+pub bytes-of-determined : (password : ℕ) (b₁ b₂ : List ℕ) → b₁ ≡ bytesOf password → b₂ ≡ bytesOf password → b₁ ≡ b₂
+bytes-of-determined password b₁ b₂ p q = p ∙ sym q

@@ -1,10 +1,9 @@
 // MD5 and the generator, for C.
 ghost use mathlib.Core.Path.{_≡_};
 ghost use lib.ListN.{length};
-ghost use Rattle.text.specs.Front.{leaves};
 ghost use Rattle.md5.specs.Md5.{digestOf, md5};
 ghost use Rattle.password.specs.Password as Password;
-ghost use Rattle.panel.specs.Answers.{readingRow, writtenRow};
+ghost use Rattle.panel.specs.Answers.{readingRow, Reported};
 use crate::answers::LiftReading;
 use crate::answers::LiftWritten;
 use crate::answers::reading_row;
@@ -12,8 +11,7 @@ use crate::answers::written_row;
 
 #[no_mangle]
 pub extern "C" fn lift_md5(text: &[u8], digest: &mut [u8]) -> LiftWritten
-    ensures answered { λ r. ⌜ r ≡ writtenRow (digestOf (now (text .entry)) (length (now (digest .entry)))) ⌝ }
-    ensures left { λ r. ⌜ now (digest .exit) ≡ leaves (digestOf (now (text .entry)) (length (now (digest .entry)))) (md5 (now (text .entry))) (now (digest .entry)) ⌝ }
+    ensures { λ r. ⌜ Reported (digestOf (now (text .entry)) (length (now (digest .entry)))) (md5 (now (text .entry))) (now (digest .entry)) (now (digest .exit)) r ⌝ }
 {
     written_row(md5::digest::digest(text, digest))
 }

@@ -5,3 +5,5 @@
 mod answers;
 // MD5 and the generator.
 pub mod hashing;
+// Replies and passwords.
+pub mod replies;

@@ -4,19 +4,27 @@ use mathlib.Core.Path.{_≡_, refl, sym, ap, ap₂, _∙_}
 use mathlib.Core.List.{List, [], _∷_, _++_}
 use native.Mathlib.Omega.{arith}
 use lib.Bits.{bitXor, xor-shr, xor-mod}
-use Rattle.block.specs.Lists.{upTo}
+use lib.ListN.{length, getD}
+use lib.Seq.{ext-getD}
+use Rattle.block.specs.Lists.{upTo, length-upTo, getD-upTo}
 use Rattle.md5.specs.declared.State.{State}
 use Rattle.md5.specs.Md5.{bytes4}
 use Rattle.password.specs.Password.{fold, numberAfter, numberOf}
 use Rattle.password.specs.Inside.{high4}
 
 -- Eight bytes as a number: the first four, then the last four.
-number-eight : (b₀ b₁ b₂ b₃ b₄ b₅ b₆ b₇ : ℕ)
+pub number-eight : (b₀ b₁ b₂ b₃ b₄ b₅ b₆ b₇ : ℕ)
     → numberOf (b₀ ∷ b₁ ∷ b₂ ∷ b₃ ∷ b₄ ∷ b₅ ∷ b₆ ∷ b₇ ∷ [])
     ≡ (b₀ * 16777216 + b₁ * 65536 + b₂ * 256 + b₃) * 4294967296
     + (b₄ * 16777216 + b₅ * 65536 + b₆ * 256 + b₇)
 unfolding numberAfter
 number-eight b₀ b₁ b₂ b₃ b₄ b₅ b₆ b₇ = omega arith
+
+-- Eight bytes, one by one.
+pub as-eight : (l : List ℕ) → length l ≡ 8 → l ≡ upTo 8 (λ (i : ℕ). getD l i 0)
+as-eight l long =
+    ext-getD 0 l (upTo 8 (λ (i : ℕ). getD l i 0)) (long ∙ sym (length-upTo 8 (λ (i : ℕ). getD l i 0)))
+    (λ i h. sym (getD-upTo 8 (λ (j : ℕ). getD l j 0) i (omega (arith, long))))
 
 -- A byte of an exclusive or is the exclusive or of the bytes.
 byte-xor : (x y k : ℕ) → bitXor (x / 2 ^ k % 2 ^ 8) (y / 2 ^ k % 2 ^ 8) ≡ bitXor x y / 2 ^ k % 2 ^ 8

@@ -1,17 +1,19 @@
 -- Laws of the checks, the chain and the generator, for the crates above.
-use Prim.Native.Nat.{ℕ, zero, suc, _≤_, _<_}
+use Prim.Native.Nat.{ℕ, zero, suc, _+_, _*_, _/_, _%_, _^_, _≤_, _<_}
 use mathlib.Core.Path.{_≡_, refl, sym, ap, _∙_}
 use mathlib.Core.Bool.{Bool, true, false, cond, _&&_}
 use mathlib.Core.List.{List}
 use borrow.Author.Tests.{lt-ltb, le-ltb, ltb-false, leb-true}
+use native.Mathlib.Nat.{div-add-mod'}
 use native.Mathlib.Omega.{arith}
 use lib.Dec.{ltb, leb}
 use lib.ListN.{length}
+use lib.Pow.{shr-shr}
 use Rattle.refusal.specs.declared.Refusal.{Refusal}
 use Rattle.refusal.specs.declared.Checked.{Checked}
 use Rattle.refusal.specs.declared.Reading.{Reading}
 use Rattle.password.specs.Checks.{phraseChecked, plain, seedChecked}
-use Rattle.password.specs.Password.{Algorithm, hash, password, generated}
+use Rattle.password.specs.Password.{Algorithm, hash, password, generated, numberAfter, numberOf, bytesOf}
 
 -- ---- what a check that finds nothing wrong says
 
@@ -59,3 +61,22 @@ module _ (algorithm : Algorithm) (phrase seed : List ℕ) (count : ℕ) where
       → generated algorithm phrase seed count ≡ Reading.Password (password algorithm phrase seed count)
   unfolding generated
   generated-good e g h = rw (e, g, le-ltb 9999 count h)
+
+-- ---- a password's eight bytes are its number again
+
+-- One byte more of a number's.
+next-byte : (p k : ℕ) → p / 2 ^ (k + 8) * 256 + p / 2 ^ k % 256 ≡ p / 2 ^ k
+next-byte p k = ap (λ (q : ℕ). q * 256 + p / 2 ^ k % 256) (sym (shr-shr p k 8)) ∙ div-add-mod' (p / 2 ^ k) 256
+
+pub number-bytes : (p : ℕ) → p < 2 ^ 64 → numberOf (bytesOf p) ≡ p
+unfolding numberAfter
+number-bytes p h =
+    let after : (ℕ → ℕ → ℕ) = λ n k. n * 256 + p / 2 ^ k % 256 in
+    let s₀ : after 0 56 ≡ p / 2 ^ 56 = omega arith in
+    let s₁ : after (after 0 56) 48 ≡ p / 2 ^ 48 = ap (λ n. after n 48) s₀ ∙ next-byte p 48 in
+    let s₂ = ap (λ n. after n 40) s₁ ∙ next-byte p 40 in
+    let s₃ = ap (λ n. after n 32) s₂ ∙ next-byte p 32 in
+    let s₄ = ap (λ n. after n 24) s₃ ∙ next-byte p 24 in
+    let s₅ = ap (λ n. after n 16) s₄ ∙ next-byte p 16 in
+    let s₆ = ap (λ n. after n 8) s₅ ∙ next-byte p 8 in
+    ap (λ n. n * 256 + p % 256) s₆ ∙ div-add-mod' p 256

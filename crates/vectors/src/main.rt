@@ -1,7 +1,29 @@
-// Prints the MD5 rows of RFC 2289, Appendix C, and the row of its parity check, as our generator gives
-// them: pass-phrase, seed, count, hex, with tabs between. The file `stdout` beside src/ is the RFC's.
+// Prints the MD5 rows of RFC 2289, Appendix C, and the row of its parity check, as our generator and
+// writers give them: pass-phrase, seed, count, hex, six words, with tabs between. The file `stdout`
+// beside src/ has the RFC's rows.
 use libc::STDOUT_FILENO;
 use refusal::Reading;
+use refusal::Written;
+
+// What a writer put at the front of the buffer, on standard output.
+fn show(written: Written, buf: &[u8]) {
+    let Written::Wrote(n) = written else {
+        return;
+    };
+    if n <= buf.len() {
+        io::write_all(STDOUT_FILENO, &buf[..n]);
+    }
+}
+
+fn both_texts(p: u64) {
+    let mut hex = [0u8; 16];
+    let written = reply::write_hex(p, &mut hex);
+    show(written, &hex);
+    io::write_all(STDOUT_FILENO, b"\t");
+    let mut words = [0u8; 29];
+    let written = reply::write_words(p, &mut words);
+    show(written, &words);
+}
 
 fn row(phrase: &[u8], seed: &[u8], count: u32) {
     io::write_all(STDOUT_FILENO, phrase);
@@ -10,11 +32,9 @@ fn row(phrase: &[u8], seed: &[u8], count: u32) {
     io::write_all(STDOUT_FILENO, b"\t");
     io::print_decimal(STDOUT_FILENO, count as u64);
     io::write_all(STDOUT_FILENO, b"\t");
-    match password::generator::generate(phrase, seed, count) {
-        Reading::Password(p) => io::print_hex(STDOUT_FILENO, p, 16),
-        Reading::Refused(_) => io::write_all(STDOUT_FILENO, b"refused"),
+    if let Reading::Password(p) = password::generator::generate(phrase, seed, count) {
+        both_texts(p);
     }
-    ;
     io::write_all(STDOUT_FILENO, b"\n");
 }
 

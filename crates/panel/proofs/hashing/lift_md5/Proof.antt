@@ -1,20 +1,15 @@
--- `lift_md5` meets its promise: the digest's answer, laid out, and the buffer as the digest left it.
-use mathlib.Core.Path.{ap, _∙_}
+-- `lift_md5` meets its promise: the writer's answer, laid out, and the buffer as the writer left it.
 use borrow.Author.Needs.{needs}
-use Rattle.refusal.specs.declared.Written.{Written}
-use Rattle.text.specs.Front.{leaves}
 use Rattle.md5.specs.Md5.{md5}
-use Rattle.panel.specs.Answers.{writtenRow}
+use Rattle.panel.proofs.Laid.{laid}
 use Rattle.panel.proofs.hashing.lift_md5.Statement.{statement}
 use Rattle.panel.proofs.hashing.lift_md5.Tie as tie
 
 returns : tie.Need-returns
 returns c =
     let a = c .before .before .before .before .before .before .before .args in
-    let called = c .before .before .before .digest .ensures in (
-      c .written-row .ensures ∙ ap writtenRow (called .0),
-      called .1 ∙ ap (λ (r : Written). leaves r (md5 (a .text .now)) (a .digest .now)) (called .0),
-    )
+    let called = c .before .before .before .digest .ensures in
+    laid _ _ (md5 (a .text .now)) (a .digest .now) _ _ (called .0) (called .1) (c .written-row .ensures)
 
 pub lift-md5-spec : {M : Type 1} → statement M
 lift-md5-spec =

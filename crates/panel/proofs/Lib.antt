@@ -1,0 +1,2 @@
+-- What the proofs of `panel`'s functions share.
+pub mod Laid

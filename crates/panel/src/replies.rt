@@ -1,0 +1,47 @@
+// Replies: reading one, writing one as hex or as words, and a password's eight bytes, for C.
+ghost use mathlib.Core.Path.{_≡_};
+ghost use lib.ListN.{length};
+ghost use Rattle.text.specs.Front.{writtenOf};
+ghost use Rattle.password.specs.Password.{numberOf, bytesOf};
+ghost use Rattle.reply.specs.Reading.{readingOf};
+ghost use Rattle.reply.specs.Writing.{hexOf, wordsOf};
+ghost use Rattle.panel.specs.Answers.{readingRow, Reported};
+use crate::answers::LiftReading;
+use crate::answers::LiftWritten;
+use crate::answers::reading_row;
+use crate::answers::written_row;
+
+#[no_mangle]
+pub extern "C" fn lift_read_reply(text: &[u8]) -> LiftReading
+    ensures { λ r. ⌜ r ≡ readingRow (readingOf (now (text .entry))) ⌝ }
+{
+    reading_row(reply::read(text))
+}
+
+#[no_mangle]
+pub extern "C" fn lift_write_hex(password: u64, buf: &mut [u8]) -> LiftWritten
+    ensures { λ r. ⌜ Reported (writtenOf (length (now (buf .entry))) (hexOf password)) (hexOf password) (now (buf .entry)) (now (buf .exit)) r ⌝ }
+{
+    written_row(reply::write_hex(password, buf))
+}
+
+#[no_mangle]
+pub extern "C" fn lift_write_words(password: u64, buf: &mut [u8]) -> LiftWritten
+    ensures { λ r. ⌜ Reported (writtenOf (length (now (buf .entry))) (wordsOf password)) (wordsOf password) (now (buf .entry)) (now (buf .exit)) r ⌝ }
+{
+    written_row(reply::write_words(password, buf))
+}
+
+#[no_mangle]
+pub extern "C" fn lift_password_of(bytes: &[u8; 8]) -> u64
+    ensures { λ r. ⌜ r ≡ numberOf (now (bytes .entry)) ⌝ }
+{
+    password::bytes::number_of(*bytes)
+}
+
+#[no_mangle]
+pub extern "C" fn lift_bytes_of(password: u64, bytes: &mut [u8; 8])
+    ensures { λ r. ⌜ now (bytes .exit) ≡ bytesOf password ⌝ }
+{
+    *bytes = password::bytes::bytes_of(password);
+}
