@@ -1,0 +1,69 @@
+"""What each exported function takes of a panel: code, read-only data, stack."""
+import harness
+
+# what is linked together in a panel that only reads, or only writes, replies
+GROUPS = {
+    "both writers": ["lift_write_hex", "lift_write_words"],
+    "reader and writers": ["lift_read_reply", "lift_write_hex", "lift_write_words"],
+}
+# where a linker puts code, what is only read, and what is written
+KINDS = {"code": [".text"], "read-only": [".rodata"], "variables": [".data", ".bss"]}
+
+
+def symbols(library, kind):
+    """The archive's symbols of one kind: T are exported, U are wanted from elsewhere."""
+    lines = (line.split() for line in harness.run(["nm", library]).splitlines())
+    return [words[-1] for words in lines if len(words) > 1 and words[-2] == kind]
+
+
+def section_bytes(program):
+    """Bytes by kind of a linked program, from `size -A`."""
+    lines = (line.split() for line in harness.run(["size", "-A", program]).splitlines())
+    sizes = {words[0]: int(words[1]) for words in lines
+             if len(words) == 3 and words[1].isdigit()}
+    return {kind: sum(sizes.get(section, 0) for section in sections)
+            for kind, sections in KINDS.items()}
+
+
+def linked(library, names):
+    """Bytes of a program that does nothing, with these functions linked in."""
+    kept = [f"-Wl,--undefined={name}" for name in names]  # as if it called them
+    return section_bytes(harness.build("empty", ["bench/empty.c"], library,
+                                       ["-O2", "-Wl,--gc-sections", *kept]))
+
+
+def depths(library, flags):
+    """Each function's bytes from the top of the stack, as stack.c prints them."""
+    # bound at the start, since binding at the first call takes stack of its own; and a call
+    # that ends a function of stack.c stays a call, from as deep as the others
+    program = harness.build("stack", ["bench/stack.c"], library,
+                            ["-O2", "-fno-optimize-sibling-calls", "-Wl,-z,now", *flags])
+    return {name: int(depth) for name, depth in map(str.split, harness.run([program]).splitlines())}
+
+
+def stacks(library, exported):
+    """Each function's stack: as deep as it goes, less as deep as one that does nothing goes."""
+    mute = [f"-Wl,--defsym={name}=nothing" for name in exported]
+    taken, before = depths(library, []), depths(library, mute)
+    return {name: taken[name] - before[name] for name in taken}
+
+
+def row(title, sizes, empty, stack):
+    code, data = (sizes[kind] - empty[kind] for kind in ("code", "read-only"))
+    return f"{title:24} {code:10,} {data:16,} {stack:>10}".rstrip()
+
+
+def table(library):
+    exported = symbols(library, "T")
+    empty, stack = linked(library, []), stacks(library, exported)
+    everything = linked(library, exported)
+    print("Bytes of each function in a linked program, unused sections dropped, and of the stack"
+          "\nit takes below its return address at most, over the inputs of stack.c.")
+    print(f"{'':24} {'code':>10} {'read-only data':>16} {'stack':>10}")
+    for name in exported:
+        print(row(name, linked(library, [name]), empty, stack.get(name, "not run")))
+    for title, names in GROUPS.items():
+        print(row(title, linked(library, names), empty, ""))
+    print(row("all of them", everything, empty, ""))
+    print(f"Variables: {everything['variables'] - empty['variables']} bytes. "
+          f"Called and not counted: {', '.join(symbols(library, 'U')) or 'nothing'}.")

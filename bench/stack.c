@@ -1,0 +1,146 @@
+/* The stack that each exported function takes: it runs on a painted stack, and
+ * the deepest byte whose paint is gone tells how far down it went. Prints a
+ * line for each function: its name, bytes from the top.
+ *
+ * The bytes from the top include what the caller took here. sizes.py builds
+ * this program a second time with every exported name an alias of `nothing`,
+ * and subtracts: what is left is taken below a function's return address. */
+#define _DEFAULT_SOURCE
+#include <stdio.h>
+#include <string.h>
+#include <ucontext.h>
+
+#include "bench.h"
+#include "lift.h"
+
+enum { STACK = 256 * 1024, ROOM = 4097 };
+
+void nothing(void);
+
+void nothing(void)
+{
+}
+
+static _Alignas(64) uint8_t stack[STACK];
+static uint8_t bytes[ROOM], buf[ROOM];
+
+#define BYTES(literal) (const uint8_t *)(literal), sizeof(literal) - 1
+
+/* Lengths on both sides of where padding takes another block, and one too long. */
+static void call_md5(void)
+{
+    static const size_t lengths[] = {0, 55, 56, 64, 119, 120, 4096, 4097};
+    for (size_t i = 0; i < LENGTH_OF(lengths); i++)
+        lift_md5(bytes, lengths[i], buf, 16);
+    lift_md5(bytes, 64, buf, 15);
+}
+
+/* Shortest and longest inputs, a seed in upper case, each refusal. */
+static void call_password(void)
+{
+    static const uint32_t counts[] = {0, 1, 2, 100, 9999, 10000};
+    for (size_t i = 0; i < LENGTH_OF(counts); i++) {
+        lift_password(bytes, 10, BYTES("t"), counts[i]);
+        lift_password(bytes, 63, BYTES("ABCDEFGHijkl6789"), counts[i]);
+    }
+    lift_password(bytes, 9, BYTES("test"), 1);
+    lift_password(bytes, 64, BYTES("test"), 1);
+    lift_password(bytes, 10, BYTES(""), 1);
+    lift_password(bytes, 10, BYTES("te st"), 1);
+}
+
+/* Words and hex in both cases and with white space, each refusal. */
+static void call_read_reply(void)
+{
+    lift_read_reply(BYTES("INCH SEA ANNE LONG AHEM TOUR"));
+    lift_read_reply(BYTES("\t inch sea  anne\r\nlong ahem tour \n"));
+    lift_read_reply(BYTES("A A A A A A"));
+    lift_read_reply(BYTES("9e876134d90499dd"));
+    lift_read_reply(BYTES(" 9E87 6134 D904 99DD "));
+    lift_read_reply(BYTES("INCH SEA ANNE LONG AHEM TOUT"));
+    lift_read_reply(BYTES("XQ SEA ANNE LONG AHEM TOUR"));
+    lift_read_reply(BYTES("INCH SEA ANNE LONG AHEM ZZZZ"));
+    lift_read_reply(BYTES("INCH SEA ANNE LONG AHEM"));
+    lift_read_reply(BYTES("9e876134d90499d"));
+    lift_read_reply(BYTES(""));
+    lift_read_reply(bytes, 128);
+    lift_read_reply(bytes, 129);
+}
+
+static const uint64_t passwords[] = {0, 1, 0x9e876134d90499dd, UINT64_MAX};
+
+/* Short words and long ones, room and none. */
+static void call_write_words(void)
+{
+    for (size_t i = 0; i < LENGTH_OF(passwords); i++) {
+        lift_write_words(passwords[i], buf, 29);
+        lift_write_words(passwords[i], buf, 10);
+    }
+}
+
+static void call_write_hex(void)
+{
+    for (size_t i = 0; i < LENGTH_OF(passwords); i++) {
+        lift_write_hex(passwords[i], buf, 16);
+        lift_write_hex(passwords[i], buf, 15);
+    }
+}
+
+static void call_password_of(void)
+{
+    lift_password_of(bytes);
+}
+
+static void call_bytes_of(void)
+{
+    lift_bytes_of(passwords[2], buf);
+}
+
+static void (*call)(void);
+
+/* What comes before and after it on the painted stack stays in the top half
+ * KiB, above this frame's end; so the call is what goes deepest. */
+static void call_below(void)
+{
+    volatile uint8_t top[512] = {0};
+    call();
+    (void)top[0]; /* kept until the call is over */
+}
+
+/* Bytes of the stack, from its top, down to the deepest whose paint is gone. */
+static size_t depth(int paint)
+{
+    ucontext_t here, there;
+    size_t unused = 0;
+    memset(stack, paint, STACK);
+    getcontext(&there);
+    there.uc_stack.ss_sp = stack;
+    there.uc_stack.ss_size = STACK;
+    there.uc_link = &here;
+    makecontext(&there, call_below, 0);
+    swapcontext(&here, &there);
+    while (unused < STACK && stack[unused] == paint)
+        unused++;
+    return STACK - unused;
+}
+
+/* A byte may happen to be written with the paint's value, but not with both. */
+static void measure(const char *name, void (*calls)(void))
+{
+    call = calls;
+    size_t once = depth(0xa5), again = depth(0x5a);
+    printf("%s %zu\n", name, once > again ? once : again);
+}
+
+int main(void)
+{
+    memset(bytes, 'a', sizeof bytes);
+    measure("lift_md5", call_md5);
+    measure("lift_password", call_password);
+    measure("lift_read_reply", call_read_reply);
+    measure("lift_write_hex", call_write_hex);
+    measure("lift_write_words", call_write_words);
+    measure("lift_password_of", call_password_of);
+    measure("lift_bytes_of", call_bytes_of);
+    return 0;
+}

@@ -1,0 +1,144 @@
+/* Passwords as six words and as hex, read and written, against Heimdal's libotp.
+ * Thousands of random passwords take turns: a processor that sees a few again
+ * and again learns where their searches branch. */
+#include <string.h>
+
+#include "bench.h"
+#include "heimdal.h"
+#include "lift.h"
+
+/* room for the longest text, 29 bytes, and for the NUL that Heimdal wants */
+enum { PASSWORDS = 4096, ROOM = 32 };
+
+typedef struct {
+    char bytes[ROOM];
+    size_t len;
+} written_text;
+
+static uint64_t passwords[PASSWORDS];
+static unsigned char keys[PASSWORDS][8];
+static written_text words[PASSWORDS], hex[PASSWORDS];
+
+typedef uint64_t reader(const written_text *text);
+typedef size_t writer(size_t which, char buf[ROOM]);
+
+static uint64_t proved_reader(const written_text *text)
+{
+    return lift_read_reply((const uint8_t *)text->bytes, text->len).password;
+}
+
+static uint64_t heimdal_words_reader(const written_text *text)
+{
+    unsigned char key[8] = {0};
+    heimdal->parse_stddict(key, text->bytes);
+    return password_of_key(key);
+}
+
+static uint64_t heimdal_hex_reader(const written_text *text)
+{
+    unsigned char key[8] = {0};
+    heimdal->parse_hex(key, text->bytes);
+    return password_of_key(key);
+}
+
+static size_t proved_words_writer(size_t which, char buf[ROOM])
+{
+    return lift_write_words(passwords[which], (uint8_t *)buf, ROOM).written;
+}
+
+static size_t proved_hex_writer(size_t which, char buf[ROOM])
+{
+    return lift_write_hex(passwords[which], (uint8_t *)buf, ROOM).written;
+}
+
+static size_t heimdal_words_writer(size_t which, char buf[ROOM])
+{
+    heimdal->print_stddict(keys[which], buf, ROOM);
+    return 1; /* it doesn't say how much it wrote */
+}
+
+static size_t heimdal_hex_writer(size_t which, char buf[ROOM])
+{
+    heimdal->print_hex(keys[which], buf, ROOM);
+    return 1;
+}
+
+/* The next of a fixed row of random numbers (splitmix64). */
+static uint64_t next_password(uint64_t *state)
+{
+    uint64_t z = *state += 0x9e3779b97f4a7c15;
+    z = (z ^ z >> 30) * 0xbf58476d1ce4e5b9;
+    z = (z ^ z >> 27) * 0x94d049bb133111eb;
+    return z ^ z >> 31;
+}
+
+static void make_passwords(void)
+{
+    uint64_t state = 2289;
+    for (size_t i = 0; i < PASSWORDS; i++) {
+        passwords[i] = next_password(&state);
+        lift_bytes_of(passwords[i], keys[i]);
+        words[i].len = proved_words_writer(i, words[i].bytes);
+        hex[i].len = proved_hex_writer(i, hex[i].bytes);
+    }
+}
+
+static void check_heimdal(size_t i)
+{
+    char its_words[ROOM], its_hex[ROOM];
+    heimdal_words_writer(i, its_words);
+    heimdal_hex_writer(i, its_hex);
+    same(strcmp(words[i].bytes, its_words) == 0, "words written, Heimdal");
+    same(strcmp(hex[i].bytes, its_hex) == 0, "hex written, Heimdal");
+    same(heimdal_words_reader(&words[i]) == passwords[i], "words read, Heimdal");
+    same(heimdal_hex_reader(&hex[i]) == passwords[i], "hex read, Heimdal");
+}
+
+void check_words(void)
+{
+    make_passwords();
+    for (size_t i = 0; i < PASSWORDS; i++) {
+        same(proved_reader(&words[i]) == passwords[i], "words read, the password written");
+        same(proved_reader(&hex[i]) == passwords[i], "hex read, the password written");
+        if (heimdal != NULL)
+            check_heimdal(i);
+    }
+}
+
+static void time_reader(const char *what, const char *whose, reader *read,
+                        const written_text texts[PASSWORDS])
+{
+    uint64_t sum = 0;
+    double start = now();
+    for (size_t i = 0; i < PASSWORDS; i++)
+        sum += read(&texts[i]);
+    timed(what, whose, now() - start, PASSWORDS);
+    sink = sum;
+}
+
+static void time_writer(const char *what, const char *whose, writer *write)
+{
+    char buf[ROOM];
+    uint64_t sum = 0;
+    double start = now();
+    for (size_t i = 0; i < PASSWORDS; i++)
+        sum += write(i, buf) + (uint8_t)buf[0];
+    timed(what, whose, now() - start, PASSWORDS);
+    sink = sum;
+}
+
+void time_words(void)
+{
+    time_reader("words-read", "proved", proved_reader, words);
+    if (heimdal != NULL)
+        time_reader("words-read", "heimdal", heimdal_words_reader, words);
+    time_writer("words-written", "proved", proved_words_writer);
+    if (heimdal != NULL)
+        time_writer("words-written", "heimdal", heimdal_words_writer);
+    time_reader("hex-read", "proved", proved_reader, hex);
+    if (heimdal != NULL)
+        time_reader("hex-read", "heimdal", heimdal_hex_reader, hex);
+    time_writer("hex-written", "proved", proved_hex_writer);
+    if (heimdal != NULL)
+        time_writer("hex-written", "heimdal", heimdal_hex_writer);
+}
