@@ -1,11 +1,27 @@
--- The dictionary as packed words, and the place of a word in it.
+-- The word at a place of the dictionary and the place of a word in it; then the same of words packed into numbers.
 use Prim.Native.Nat.{ℕ, suc, _+_, _*_, _-_, _/_, _%_, _^_}
 use mathlib.Core.Bool.{cond}
 use mathlib.Core.List.{List, [], _∷_, map}
 use lib.Dec.{eqb, ltb}
 use lib.ListN.{length, getD}
 use Rattle.dictionary.specs.declared.Found.{Found}
+use Rattle.text.specs.Tests.{same}
 use Rattle.dictionary.specs.Words.{words}
+
+-- 01, Six words and hex: "the place of a word in RFC 2289 Appendix D, places 0 to 2,047"; no letters from 2,048 on
+abbrev pub wordAt : ℕ → List ℕ
+wordAt i = getD words i []
+
+-- where a word first stands in a list whose places count from i
+unfoldable pub standsFrom : ℕ → List ℕ → List (List ℕ) → Found
+standsFrom i w [] = Found.Nothing
+standsFrom i w (v ∷ vs) = cond (same w v) (Found.At i) (standsFrom (suc i) w vs)
+
+-- the place of a word, if it is in the dictionary
+unfoldable pub placeOf : List ℕ → Found
+placeOf w = standsFrom 0 w words
+
+-- ---- packed words, in which the table of the code is
 
 -- the number whose digits to base 256 are those of v and then cs
 unfoldable pub numberFrom : ℕ → List ℕ → ℕ
@@ -30,10 +46,6 @@ lettersOf v =
 
 unfoldable pub dictionary : List ℕ
 dictionary = map packed words
-
--- 01, Six words and hex: "the place of a word in RFC 2289 Appendix D, places 0 to 2,047"; no letters from 2,048 on
-abbrev pub wordAt : ℕ → List ℕ
-wordAt i = getD words i []
 
 -- the packed word at a place; 0 from 2,048 on
 abbrev pub packedAt : ℕ → ℕ

@@ -3,18 +3,19 @@ use Prim.Native.Nat.{ℕ, zero, suc, _+_, _*_, _-_, _/_, _%_, _^_, _≤_, _<_}
 use native.Mathlib.Omega.{arith}
 use native.Mathlib.Decide.{decLt}
 use native.Mathlib.Nat.{le-of-suc-le-suc, not-suc-le-zero}
-use mathlib.Core.Path.{_≡_, refl, sym, _∙_, ap}
+use mathlib.Core.Path.{_≡_, refl, sym, _∙_, ap, ap₂}
 use mathlib.Core.Logic.{_↔_}
-use mathlib.Core.Bool.{Bool, true, false, cond, _&&_}
-use mathlib.Core.List.{List, [], _∷_, flatten}
+use mathlib.Core.Bool.{Bool, true, false, false≢true, cond, _&&_}
+use mathlib.Core.List.{List, [], _∷_, map, flatten}
 use lib.Dec.{T, leb, eqb, leb→le, eqb→eq}
 use lib.ListN.{length, getD, take, drop, List·getD-map, length-map}
 use lib.Seq.{getD-take, getD-drop}
 use borrow.Author.Tests.{lt-ltb, le-ltb, eq-eqb, ne-eqb, eqb-true}
 use Rattle.dictionary.specs.declared.Found.{Found}
 use Rattle.text.specs.Quoted.{codes}
+use Rattle.text.specs.Tests.{same, same-equal, same-self, cases}
 use Rattle.dictionary.specs.Words.{wordsIn, lines, words}
-use Rattle.dictionary.specs.Dictionary.{numberFrom, packed, unfilled, lettersOf, dictionary, wordAt, packedAt, placeFrom, foundOf}
+use Rattle.dictionary.specs.Dictionary.{numberFrom, packed, unfilled, lettersOf, dictionary, wordAt, packedAt, placeFrom, foundOf, standsFrom, placeOf}
 use Rattle.dictionary.specs.Runs.{TwoRuns}
 use Rattle.dictionary.specs.Order.{both, each, each-at, rising, rising-at, inOrder, inOrder-at}
 
@@ -258,29 +259,49 @@ word-spelt i h =
 pub letters-at : (i : ℕ) → i < 2048 → lettersOf (packedAt i) ≡ wordAt i
 letters-at i h = ap lettersOf (packed-at i) ∙ letters-packed (wordAt i) (word-spelt i h)
 
+-- ---- packed words stand where the words do
+
+same-packed : (v w : List ℕ) → Spelt v → Spelt w → eqb (packed v) (packed w) ≡ same v w
+same-packed v w s t =
+    cases (same v w)
+    (λ e. eq-eqb (packed v) (packed w) (ap packed (same-equal v w e)) ∙ sym e)
+    (λ e. ne-eqb (packed v) (packed w) (λ p. false≢true (sym e ∙ ap (same v) (sym (packed-injective v w s t p)) ∙ same-self v)) ∙ sym e)
+
+stands-packed : (i : ℕ) (w : List ℕ) (ws : List (List ℕ)) → Spelt w → ((k : ℕ) → k < length ws → Spelt (getD ws k []))
+    → placeFrom i (packed w) (map packed ws) ≡ standsFrom i w ws
+unfolding placeFrom standsFrom
+stands-packed i w [] s f = refl
+stands-packed i w (v ∷ vs) s f =
+    ap₂ (λ (t : Bool) (later : Found). cond t (Found.At i) later) (same-packed w v s (f zero (omega arith)))
+    (stands-packed (suc i) w vs s (λ k h. f (suc k) (omega arith)))
+
+pub place-packed : (w : List ℕ) → Spelt w → foundOf (packed w) ≡ placeOf w
+unfolding foundOf placeOf dictionary
+place-packed w s = stands-packed 0 w words s (λ k h. word-spelt k (rw words-count at h))
+
 -- a word of one to four letters is found at a place exactly if it stands there
-pub found-word : (w : List ℕ) → Spelt w → (i : ℕ) → (foundOf (packed w) ≡ Found.At i) ↔ ((i < 2048) × (wordAt i ≡ w))
+pub found-word : (w : List ℕ) → Spelt w → (i : ℕ) → (placeOf w ≡ Found.At i) ↔ ((i < 2048) × (wordAt i ≡ w))
 found-word w s i = (there, found)
   where
-    there : foundOf (packed w) ≡ Found.At i → (i < 2048) × (wordAt i ≡ w)
+    there : placeOf w ≡ Found.At i → (i < 2048) × (wordAt i ≡ w)
     there e =
-        let r = found-place (packed w) i e in
+        let r = found-place (packed w) i (place-packed w s ∙ e) in
         (r .0, packed-injective (wordAt i) w (word-spelt i (r .0)) s (sym (packed-at i) ∙ r .1))
 
-    found : (i < 2048) × (wordAt i ≡ w) → foundOf (packed w) ≡ Found.At i
-    found h = ap foundOf (ap packed (sym (h .1)) ∙ sym (packed-at i)) ∙ at-place i (h .0)
+    found : (i < 2048) × (wordAt i ≡ w) → placeOf w ≡ Found.At i
+    found h = sym (place-packed w s) ∙ ap foundOf (ap packed (sym (h .1)) ∙ sym (packed-at i)) ∙ at-place i (h .0)
 
 -- and is not found exactly if it stands nowhere
-pub unknown-word : (w : List ℕ) → Spelt w → (foundOf (packed w) ≡ Found.Nothing) ↔ ((i : ℕ) → i < 2048 → wordAt i ≡ w → ⊥)
+pub unknown-word : (w : List ℕ) → Spelt w → (placeOf w ≡ Found.Nothing) ↔ ((i : ℕ) → i < 2048 → wordAt i ≡ w → ⊥)
 unknown-word w s = (nowhere, unknown)
   where
-    nowhere : foundOf (packed w) ≡ Found.Nothing → (i : ℕ) → i < 2048 → wordAt i ≡ w → ⊥
+    nowhere : placeOf w ≡ Found.Nothing → (i : ℕ) → i < 2048 → wordAt i ≡ w → ⊥
     nowhere e i h f =
         let there = found-word w s i .1 (h, f) in
         let z : _≡_ {A = ℕ} 0 1 = cc in
         omega arith
 
-    unknown : ((i : ℕ) → i < 2048 → wordAt i ≡ w → ⊥) → foundOf (packed w) ≡ Found.Nothing
+    unknown : ((i : ℕ) → i < 2048 → wordAt i ≡ w → ⊥) → placeOf w ≡ Found.Nothing
     unknown f =
-        no-place (packed w)
+        sym (place-packed w s) ∙ no-place (packed w)
         (λ i h e. f i h (packed-injective (wordAt i) w (word-spelt i h) s (sym (packed-at i) ∙ e)))

@@ -6,12 +6,20 @@ use Rattle.text.specs.Front.{leaves}
 use Rattle.refusal.specs.declared.Reading.{Reading}
 use Rattle.refusal.specs.declared.Written.{Written}
 use Rattle.refusal.specs.Numbers.{listingOf}
+use Rattle.challenge.specs.declared.reading.Challenge.{Challenge}
+use Rattle.panel.specs.declared.answers.LiftChallenge.{LiftChallenge}
 use Rattle.panel.specs.declared.answers.LiftReading.{LiftReading}
 use Rattle.panel.specs.declared.answers.LiftWritten.{LiftWritten}
 
 abbrev pub readingRow : Reading → LiftReading
 readingRow (Reading.Password p) = record { password = p; refusal = 0; place = 0 }
 readingRow (Reading.Refused why) = record { password = 0; refusal = listingOf why .0; place = listingOf why .1 }
+
+abbrev pub challengeRow : Challenge → LiftChallenge
+challengeRow (Challenge.Read count start len used) =
+    record { «seed_at» = start; «seed_len» = len; used = used; count = count; refusal = 0 }
+challengeRow (Challenge.Refused why) =
+    record { «seed_at» = 0; «seed_len» = 0; used = 0; count = 0; refusal = listingOf why .0 }
 
 abbrev pub writtenRow : Written → LiftWritten
 writtenRow (Written.Wrote n) = record { written = n; refusal = 0 }

@@ -3,6 +3,8 @@
 
 // An answer as C sees it: a value and a refusal's number.
 mod answers;
+// Challenges.
+pub mod challenges;
 // MD5 and the generator.
 pub mod hashing;
 // Replies and passwords.

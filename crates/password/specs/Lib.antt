@@ -5,3 +5,4 @@ pub mod Inside
 pub mod Laws
 pub mod Examples
 pub mod Determined
+pub mod Bounds

@@ -8,11 +8,15 @@ use lib.ListN.{length, replicate}
 use borrow.Author.Tests.{lt-ltb, le-ltb}
 use Rattle.refusal.specs.declared.Refusal.{Refusal}
 use Rattle.refusal.specs.declared.Reading.{Reading}
+use Rattle.text.specs.Tests.{every, both}
 use Rattle.text.specs.Scan.{tokens, unspaced}
 use Rattle.dictionary.specs.declared.Found.{Found}
-use Rattle.dictionary.specs.Dictionary.{foundOf}
+use Rattle.dictionary.specs.Dictionary.{foundOf, placeOf}
+use Rattle.dictionary.specs.Laws.{place-packed}
 use Rattle.reply.specs.declared.tokens.Six.{Six}
-use Rattle.reply.specs.Reading.{upperText, sixWords, placeOf, foundAfter, wordsReading, hexReading, readingOf}
+use Rattle.reply.specs.Reading.{isWord, upperText, sixWords, foundAfter, wordsReading, hexReading, readingOf}
+use Rattle.reply.specs.WordLaws.{spelt-token}
+use Rattle.reply.specs.Laws.{six-parts}
 use Rattle.reply.specs.Inside.{packedToken, sixOf}
 use Rattle.reply.proofs.Scanned.{sixIs}
 
@@ -24,9 +28,13 @@ other-told : (b : Bool) (ws zs : List ℕ) (six : Six) → six ≡ cond b (sixIs
 other-told true ws zs six e h = absurd (false≢true (sym h ∙ ap (λ (s : Six). s .are) e))
 other-told false ws zs six e h = refl
 
-found-tokens : (ts : List (List ℕ)) → map foundOf (map packedToken ts) ≡ map placeOf (map upperText ts)
-found-tokens [] = refl
-found-tokens (t ∷ ts) = ap (λ (l : List Found). placeOf (upperText t) ∷ l) (found-tokens ts)
+-- a packed token is found where its word stands
+found-tokens : (ts : List (List ℕ)) → every isWord ts ≡ true → map foundOf (map packedToken ts) ≡ map placeOf (map upperText ts)
+unfolding every
+found-tokens [] e = refl
+found-tokens (t ∷ ts) e =
+    let halves = both (isWord t) (every isWord ts) e in
+    ap₂ (λ (f : Found) (l : List Found). f ∷ l) (place-packed (upperText t) (spelt-token t (halves .0))) (found-tokens ts (halves .1))
 
 pub too-long : (s : List ℕ) → 128 < length s → Reading.Refused Refusal.ReplyLong ≡ readingOf s
 unfolding readingOf
@@ -38,7 +46,7 @@ module _ (s : List ℕ) (h : length s ≤ 128) (six : Six) (e : six ≡ sixOf (t
   as-words a f =
       let told = six-told (sixWords (tokens s)) (map packedToken (tokens s)) (replicate 6 0) six e a in
       f ∙ ap (λ (ws : List ℕ). foundAfter 1 [] (map foundOf ws)) (told .1)
-      ∙ ap (foundAfter 1 []) (found-tokens (tokens s))
+      ∙ ap (foundAfter 1 []) (found-tokens (tokens s) (six-parts (tokens s) (told .0) .1))
       ∙ sym (ap₂ (λ (a b : Bool). cond a (Reading.Refused Refusal.ReplyLong)
       (cond b (wordsReading (map upperText (tokens s))) (hexReading (unspaced s)))) (le-ltb 128 (length s) h) (told .0))
 

@@ -5,12 +5,12 @@ use mathlib.Core.Path.{_≡_, refl}
 use mathlib.Core.List.{List, [], _∷_, map, flatten}
 use Rattle.refusal.specs.declared.Refusal.{Refusal}
 use Rattle.refusal.specs.declared.Reading.{Reading}
-use Rattle.text.specs.Tests.{every}
+use Rattle.text.specs.Tests.{every, same}
 use Rattle.text.specs.Scan.{runOf, parted, unspaced}
 use Rattle.text.specs.Digits.{digitsOf, numberAfter}
 use Rattle.text.specs.Quoted.{codes}
 use Rattle.dictionary.specs.Words.{wordsIn, lines, words}
-use Rattle.dictionary.specs.Dictionary.{numberFrom, packed, dictionary, placeFrom, foundOf}
+use Rattle.dictionary.specs.Dictionary.{standsFrom, placeOf}
 use Rattle.sixwords.specs.Places.{pairs, pairSum, whole, cut, placesOf, joined, allPlaces, numberOf}
 use Rattle.reply.specs.Writing.{hexOf, spacedFrom, wordsOf}
 use Rattle.reply.specs.Reading.{isWord, sixWords, foundAfter, sixteenDigits, hexReading, readingOf}
@@ -39,7 +39,7 @@ examples =
     ("", Reading.Refused Refusal.ReplyUnread) ∷ []
 
 pub examples-read : map (λ (e : Example). readingOf (codes (e .0))) examples ≡ map (λ (e : Example). e .1) examples
-unfolding readingOf sixWords isWord foundAfter sixteenDigits hexReading every parted unspaced numberAfter codes wordsIn lines words flatten numberFrom packed dictionary placeFrom foundOf pairs pairSum joined allPlaces numberOf
+unfolding readingOf sixWords isWord foundAfter sixteenDigits hexReading every parted unspaced numberAfter codes wordsIn lines words flatten same standsFrom placeOf pairs pairSum joined allPlaces numberOf
 examples-read = refl
 
 -- and as it is written

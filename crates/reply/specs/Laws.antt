@@ -22,12 +22,12 @@ use Rattle.text.specs.DigitLaws.{length-digits, digits-hex, hex-solid, number-d
 use Rattle.text.specs.Front.{Writes}
 use Rattle.text.specs.FrontLaws.{written-front}
 use Rattle.dictionary.specs.declared.Found.{Found}
-use Rattle.dictionary.specs.Dictionary.{wordAt}
+use Rattle.dictionary.specs.Dictionary.{wordAt, placeOf}
 use Rattle.sixwords.specs.declared.Number.{Number}
 use Rattle.sixwords.specs.Places.{placesOf, allPlaces, numberOf as placesNumber}
 use Rattle.sixwords.specs.Laws.{Six, six, six-of, places-count, number-places, number-accepted}
 use Rattle.reply.specs.Writing.{hexOf, spacedFrom, spaced, sixWordsOf, wordsOf}
-use Rattle.reply.specs.Reading.{isWord, sixWords, upperText, placeOf, summed, foundAfter, wordsReading, sixteenDigits, hexReading, readingOf}
+use Rattle.reply.specs.Reading.{isWord, sixWords, upperText, summed, foundAfter, wordsReading, sixteenDigits, hexReading, readingOf}
 use Rattle.reply.specs.WordLaws.{number-all, places-all, places-words, places-upper, places-found, tokens-spaced, length-spaced, found-all, found-password, found-tokens}
 
 -- ---- the two ways of reading, behind the length

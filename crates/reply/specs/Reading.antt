@@ -7,7 +7,7 @@ use lib.ListN.{length}
 use Rattle.refusal.specs.declared.Refusal.{Refusal}
 use Rattle.refusal.specs.declared.Reading.{Reading}
 use Rattle.dictionary.specs.declared.Found.{Found}
-use Rattle.dictionary.specs.Dictionary.{packed, foundOf}
+use Rattle.dictionary.specs.Dictionary.{placeOf}
 use Rattle.sixwords.specs.declared.Number.{Number}
 use Rattle.sixwords.specs.Places.{numberOf as placesNumber}
 use Rattle.text.specs.Kinds.{isLetter, upperOf}
@@ -26,10 +26,6 @@ sixWords ts = eqb (length ts) 6 && every isWord ts
 -- "in either case": a word as the dictionary prints it
 abbrev pub upperText : List ℕ → List ℕ
 upperText t = map upperOf t
-
--- where a word stands in the dictionary
-abbrev pub placeOf : List ℕ → Found
-placeOf w = foundOf (packed w)
 
 -- 32: "words known, pair sum wrong"
 abbrev pub summed : Number → Reading

@@ -15,13 +15,13 @@ use Rattle.text.specs.Tests.{every, cases, both}
 use Rattle.text.specs.Scan.{tokens, unspaced}
 use Rattle.text.specs.Digits.{numberOf}
 use Rattle.dictionary.specs.declared.Found.{Found}
-use Rattle.dictionary.specs.Dictionary.{wordAt}
+use Rattle.dictionary.specs.Dictionary.{wordAt, placeOf}
 use Rattle.dictionary.specs.Laws.{Spelt, found-word}
 use Rattle.sixwords.specs.declared.Number.{Number}
 use Rattle.sixwords.specs.Places.{placesOf, allPlaces, numberOf as placesNumber}
 use Rattle.sixwords.specs.Laws.{number-accepted}
 use Rattle.reply.specs.Writing.{sixWordsOf}
-use Rattle.reply.specs.Reading.{isWord, sixWords, upperText, placeOf, summed, foundAfter, wordsReading, sixteenDigits, hexReading, readingOf}
+use Rattle.reply.specs.Reading.{isWord, sixWords, upperText, summed, foundAfter, wordsReading, sixteenDigits, hexReading, readingOf}
 use Rattle.reply.specs.WordLaws.{spelt-token, places-found, found-all}
 use Rattle.reply.specs.Laws.{reads-words, reads-hex, six-parts, words-accepted}
 

@@ -15,12 +15,12 @@ use Rattle.text.specs.Tests.{every, every-at, every-from, both}
 use Rattle.text.specs.Scan.{tokens}
 use Rattle.text.specs.ScanLaws.{tokens-one, tokens-space}
 use Rattle.dictionary.specs.declared.Found.{Found}
-use Rattle.dictionary.specs.Dictionary.{packedAt, lettersOf, wordAt}
+use Rattle.dictionary.specs.Dictionary.{packedAt, lettersOf, wordAt, placeOf}
 use Rattle.dictionary.specs.Laws.{Spelt, word-upper, word-spelt, letters-at, found-word}
 use Rattle.sixwords.specs.declared.Number.{Number}
 use Rattle.sixwords.specs.Places.{pairSum, joined, placesOf, allPlaces, numberOf}
 use Rattle.sixwords.specs.Laws.{number-places}
-use Rattle.reply.specs.Reading.{isWord, upperText, placeOf, summed, foundAfter}
+use Rattle.reply.specs.Reading.{isWord, upperText, summed, foundAfter}
 use Rattle.reply.specs.Writing.{spacedFrom, spaced, wordsOf}
 
 -- an accepted number's places are places of the dictionary
@@ -159,7 +159,7 @@ found-tokens [] (i ∷ ps) g e = let z : _≡_ {A = ℕ} 0 1 = cc in absurd (ome
 found-tokens (t ∷ ts) [] g e = let z : _≡_ {A = ℕ} 0 1 = cc in absurd (omega arith)
 found-tokens (t ∷ ts) (i ∷ ps) g e =
     let halves = both (isWord t) (every isWord ts) g in
+    let spelt = spelt-token t (halves .0) in
     let first : placeOf (upperText t) ≡ Found.At i = cc in
     let rest : map placeOf (map upperText ts) ≡ map Found.At ps = cc in
-    ap₂ (λ (w : List ℕ) (ws : List (List ℕ)). w ∷ ws) (sym (found-word (upperText t) (spelt-token t (halves .0)) i .0 first .1))
-    (found-tokens ts ps (halves .1) rest)
+    ap₂ (λ (w : List ℕ) (ws : List (List ℕ)). w ∷ ws) (sym (found-word (upperText t) spelt i .0 first .1)) (found-tokens ts ps (halves .1) rest)

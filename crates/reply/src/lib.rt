@@ -9,6 +9,7 @@ mod tokens;
 mod words;
 
 ghost use mathlib.Core.Path.{_≡_};
+ghost use lib.ListN.{length};
 ghost use Rattle.reply.specs.Reading.{readingOf};
 ghost use Rattle.reply.specs.Writing.{hexOf, wordsOf};
 ghost use Rattle.text.specs.Front.{Writes};
@@ -36,6 +37,13 @@ pub fn write_hex(password: u64, buf: &mut [u8]) -> Written
         return Written::Refused(Refusal::BufferShort);
     }
     Written::Wrote(spell(buf, password, 16, 16))
+}
+
+// How many bytes the six words of a password take.
+pub fn words_length(password: u64) -> usize
+    ensures { λ r. ⌜ r ≡ length (wordsOf password) ⌝ }
+{
+    words::length_of(words::words_of(password))
 }
 
 // The password as six words at the front of the buffer.

@@ -3,13 +3,22 @@ use Prim.Native.Nat.{ℕ, zero, suc, _<_, zero-le, suc-le-suc}
 use native.Mathlib.Nat.{le-of-suc-le-suc, not-suc-le-zero}
 use mathlib.Core.Path.{_≡_, refl, sym, _∙_, ap, ap₂}
 use mathlib.Core.Bool.{Bool, true, false, false≢true, cond, _&&_, and-assoc}
+use lib.Dec.{eqb}
 use lib.ListN.{length, getD}
+use borrow.Author.Tests.{eq-eqb, eqb-true}
 use mathlib.Core.List.{List, [], _∷_, _++_}
 
 -- each element of the list passes the test
 unfoldable pub every : {A : Type 0} → (A → Bool) → List A → Bool
 every test [] = true
 every test (x ∷ xs) = test x && every test xs
+
+-- the two texts have the same bytes
+unfoldable pub same : List ℕ → List ℕ → Bool
+same [] [] = true
+same [] (b ∷ t) = false
+same (a ∷ s) [] = false
+same (a ∷ s) (b ∷ t) = eqb a b && same s t
 
 -- what holds in both cases of a test holds of what it chooses
 pub either : {A : Type 0} (P : A → Type 0) (t : Bool) {x y : A} → (t ≡ true → P x) → (t ≡ false → P y) → P (cond t x y)
@@ -55,3 +64,18 @@ every-weaker test other f [] e = refl
 every-weaker test other f (a ∷ s) e =
     let halves = both (test a) (every test s) e in
     ap₂ (λ (x y : Bool). x && y) (f a (halves .0)) (every-weaker test other f s (halves .1))
+
+-- texts with the same bytes are equal, and equal texts have them
+pub same-equal : (s t : List ℕ) → same s t ≡ true → s ≡ t
+unfolding same
+same-equal [] [] e = refl
+same-equal [] (b ∷ t) e = absurd (false≢true e)
+same-equal (a ∷ s) [] e = absurd (false≢true e)
+same-equal (a ∷ s) (b ∷ t) e =
+    let halves = both (eqb a b) (same s t) e in
+    ap₂ (λ (x : ℕ) (l : List ℕ). x ∷ l) (eqb-true a b (halves .0)) (same-equal s t (halves .1))
+
+pub same-self : (s : List ℕ) → same s s ≡ true
+unfolding same
+same-self [] = refl
+same-self (a ∷ s) = ap₂ (λ (x y : Bool). x && y) (eq-eqb a a refl) (same-self s)

@@ -1,0 +1,3 @@
+-- What the proofs of `challenge`'s functions share.
+pub mod Numbers
+pub mod Steps

@@ -1,0 +1,116 @@
+-- 01, Challenges: steps 1 to 5, "from left to right; the first fault is the answer", and what the writer writes.
+use Prim.Native.Nat.{ℕ, _+_}
+use mathlib.Core.Bool.{Bool, true, false, cond, _&&_, _||_}
+use mathlib.Core.List.{List, [], _∷_, _++_, map}
+use lib.Dec.{ltb, eqb}
+use lib.ListN.{length, take, drop}
+use Rattle.refusal.specs.declared.Refusal.{Refusal}
+use Rattle.refusal.specs.declared.Checked.{Checked}
+use Rattle.refusal.specs.declared.Written.{Written}
+use Rattle.refusal.specs.Checks.{unless}
+use Rattle.text.specs.Kinds.{inToken, isBlank, lowerOf}
+use Rattle.text.specs.Scan.{runOf}
+use Rattle.text.specs.Digits.{numberOf}
+use Rattle.text.specs.Front.{writtenOf}
+use Rattle.text.specs.Quoted.{codes}
+use Rattle.password.specs.Checks.{seedChecked}
+use Rattle.challenge.specs.declared.reading.Challenge.{Challenge}
+use Rattle.challenge.specs.Counts.{isCount, decimalOf}
+
+-- "the four bytes `otp-` in lower case"
+unfoldable pub opening : List ℕ
+opening = codes "otp-"
+
+-- the algorithm's name
+unfoldable pub algorithm : List ℕ
+algorithm = codes "md5"
+
+-- two texts are the same, byte for byte
+unfoldable pub same : List ℕ → List ℕ → Bool
+same [] [] = true
+same [] (y ∷ ys) = false
+same (x ∷ xs) [] = false
+same (x ∷ xs) (y ∷ ys) = eqb x y && same xs ys
+
+-- "A token ends before a space, tab, newline or the end of the slice": the token that starts at a place
+unfoldable pub tokenAt : List ℕ → ℕ → List ℕ
+tokenAt text at = take (runOf inToken (drop at text)) (drop at text)
+
+-- where the token at a place ends
+abbrev pub endOf : List ℕ → ℕ → ℕ
+endOf text at = at + length (tokenAt text at)
+
+-- "spaces or tabs, then a token": where the token after the one at a place starts
+unfoldable pub nextAt : List ℕ → ℕ → ℕ
+nextAt text at = endOf text at + runOf isBlank (drop (endOf text at) text)
+
+-- the places of the count and of the seed; the token of step 2 is "the rest" past the four bytes
+unfoldable pub countAt : List ℕ → ℕ
+countAt text = nextAt text 4
+
+unfoldable pub seedAt : List ℕ → ℕ
+seedAt text = nextAt text (countAt text)
+
+-- step 5: "a space or newline", and not the end of the slice
+abbrev pub terminated : List ℕ → Bool
+terminated [] = false
+terminated (b ∷ rest) = eqb b 32 || eqb b 10
+
+-- a step's test, with its refusal
+abbrev pub must : Bool → Refusal → Checked
+must test why = cond test Checked.Good (Checked.Refused why)
+
+-- the five steps
+abbrev pub step1 : List ℕ → Checked
+step1 text = must (same (take 4 text) opening) Refusal.OpeningWrong
+
+abbrev pub step2 : List ℕ → Checked
+step2 text = must (same (tokenAt text 4) algorithm) Refusal.AlgorithmUnknown
+
+abbrev pub step3 : List ℕ → Checked
+step3 text = must (isCount (tokenAt text (countAt text))) Refusal.CountUnread
+
+abbrev pub step4 : List ℕ → Checked
+step4 text = seedChecked (tokenAt text (seedAt text))
+
+abbrev pub step5 : List ℕ → Checked
+step5 text = must (terminated (drop (endOf text (seedAt text)) text)) Refusal.SeedUnended
+
+-- "On success": the count, where the seed stands, how long it is, "and the bytes used, terminator included"
+abbrev pub found : List ℕ → Challenge
+found text =
+    Challenge.Read (numberOf 10 (tokenAt text (countAt text))) (seedAt text) (length (tokenAt text (seedAt text)))
+    (endOf text (seedAt text) + 1)
+
+unfoldable pub challengeOf : List ℕ → Challenge
+challengeOf text =
+    unless Challenge.Refused (step1 text)
+    (unless Challenge.Refused (step2 text)
+    (unless Challenge.Refused (step3 text)
+    (unless Challenge.Refused (step4 text)
+    (unless Challenge.Refused (step5 text)
+    (found text)))))
+
+-- "the seed is handed back as the part of the caller's bytes where it stands"; "After a refusal the part
+-- handed back is the empty one at the start": where the part starts, and how long it is
+abbrev pub startOf : Challenge → ℕ
+startOf (Challenge.Read count start len used) = start
+startOf (Challenge.Refused why) = 0
+
+abbrev pub lengthOf : Challenge → ℕ
+lengthOf (Challenge.Read count start len used) = len
+lengthOf (Challenge.Refused why) = 0
+
+abbrev pub seedOf : List ℕ → List ℕ
+seedOf text = take (lengthOf (challengeOf text)) (drop (startOf (challengeOf text)) text)
+
+-- "The writer puts single spaces, the seed in lower case and a newline."
+unfoldable pub challengeText : List ℕ → ℕ → List ℕ
+challengeText seed count =
+    opening ++ algorithm ++ 32 ∷ [] ++ decimalOf count ++ 32 ∷ [] ++ map lowerOf seed ++ 10 ∷ []
+
+-- "the challenge writer 23, 24, 13, 40"
+unfoldable pub challengeWritten : List ℕ → ℕ → ℕ → Written
+challengeWritten seed count room =
+    unless Written.Refused (seedChecked seed)
+    (cond (ltb 9999 count) (Written.Refused Refusal.CountHigh) (writtenOf room (challengeText seed count)))

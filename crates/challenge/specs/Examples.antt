@@ -1,0 +1,42 @@
+-- 01, Checked examples: those on challenges and seeds, as one theorem.
+use mathlib.Core.Path.{_≡_, refl}
+use mathlib.Core.List.{List, [], _∷_, _++_, map}
+use Prim.Native.Nat.{ℕ}
+use Rattle.refusal.specs.declared.Refusal.{Refusal}
+use Rattle.text.specs.Scan.{runOf}
+use Rattle.text.specs.Digits.{numberAfter}
+use Rattle.text.specs.Quoted.{codes}
+use Rattle.text.specs.Tests.{every}
+use Rattle.password.specs.Checks.{plain}
+use Rattle.challenge.specs.declared.reading.Challenge.{Challenge}
+use Rattle.challenge.specs.Counts.{isCount}
+use Rattle.challenge.specs.Challenges.{opening, algorithm, same, tokenAt, nextAt, countAt, seedAt, challengeOf, seedOf}
+
+-- what a challenge says, and its seed
+unfoldable pub said : List ℕ → Challenge × List ℕ
+said text = (challengeOf text, seedOf text)
+
+abbrev newline : List ℕ
+newline = 10 ∷ []
+
+pub examples : map said (
+    (codes "otp-md5 487 dog2" ++ newline)
+    ∷ codes "otp-md5 487 dog2"
+    ∷ (codes "otp-md5 0487 dog2" ++ newline)
+    ∷ (codes "otp-md5 1 SixteenLettersAA" ++ newline)
+    ∷ (codes "otp-md5 1 SeventeenLettersA" ++ newline)
+    ∷ (codes "otp-md5 1 _eventeenLettersA" ++ newline)
+    ∷ (codes "otp-md5 1 Length_Okay" ++ newline)
+    ∷ codes "otp-md5 99 A Seed"
+    ∷ [])
+    ≡ (Challenge.Read 487 12 4 17, codes "dog2")
+    ∷ (Challenge.Refused Refusal.SeedUnended, [])
+    ∷ (Challenge.Refused Refusal.CountUnread, [])
+    ∷ (Challenge.Read 1 10 16 27, codes "SixteenLettersAA")
+    ∷ (Challenge.Refused Refusal.SeedLength, [])
+    ∷ (Challenge.Refused Refusal.SeedLength, [])
+    ∷ (Challenge.Refused Refusal.SeedCharacter, [])
+    ∷ (Challenge.Read 99 11 1 13, codes "A")
+    ∷ []
+unfolding said codes runOf numberAfter every plain isCount opening algorithm same tokenAt nextAt countAt seedAt challengeOf
+examples = refl
