@@ -1,3 +1,4 @@
 -- Lemmas of this crate's proofs.
 mod Passed
 mod Cells
+mod Spans

@@ -1,8 +1,8 @@
 // The 2,048 words of RFC 2289, Appendix D, packed: the word at a place, and the place of a word.
 ghost use mathlib.Core.Path.{_≡_};
-ghost use Prim.Native.Nat.{_*_};
+ghost use Prim.Native.Nat.{_+_, _*_, _≤_, _<_};
 ghost use Rattle.dictionary.specs.Dictionary.{packedAt, foundOf};
-ghost use Rattle.dictionary.specs.Inside.{Span};
+ghost use Rattle.dictionary.specs.Inside.{rowOf, Span};
 
 mod rows;
 
@@ -24,37 +24,63 @@ pub fn word_at(place: usize) -> u32
 pub fn place_of(word: u32) -> Found
     ensures { λ r. ⌜ r ≡ foundOf word ⌝ }
 {
-    let a = upper_half(word, 0, 1024);
-    let b = upper_half(word, a, 512);
-    let c = upper_half(word, b, 256);
-    let d = upper_half(word, c, 128);
-    let e = upper_half(word, d, 64);
-    let place = last_of_64(word, e);
-    if word_at(place) == word {
-        Found::At(place)
+    let a = upper_rows(word, 0, 128);
+    let b = upper_rows(word, a, 64);
+    let c = upper_rows(word, b, 32);
+    let i = last_of_32(word, c);
+    let row = rows::row(i);
+    let j = last_in_row(&row, i, word);
+    if row[j] == word {
+        Found::At(i * 8 + j)
     } else {
         Found::Nothing
     }
 }
 
-// From a span of 64 places to the one whose word is not over `word`.
-fn last_of_64(word: u32, low: usize) -> usize
-    requires { ⌜ Span word low 64 ⌝ }
-    ensures { λ r. ⌜ Span word r 1 ⌝ }
+// From a span of 32 rows to the one that starts with a word not over `word`.
+fn last_of_32(word: u32, low: usize) -> usize
+    requires { ⌜ Span word (low * 8) (32 * 8) ⌝ }
+    ensures { λ r. ⌜ Span word (r * 8) 8 ⌝ }
 {
-    let a = upper_half(word, low, 32);
-    let b = upper_half(word, a, 16);
-    let c = upper_half(word, b, 8);
-    let d = upper_half(word, c, 4);
-    let e = upper_half(word, d, 2);
-    upper_half(word, e, 1)
+    let a = upper_rows(word, low, 16);
+    let b = upper_rows(word, a, 8);
+    let c = upper_rows(word, b, 4);
+    let d = upper_rows(word, c, 2);
+    upper_rows(word, d, 1)
 }
 
-// Where the search goes on in a span of two halves: in the upper one, unless its first word is over `word`.
-fn upper_half(word: u32, low: usize, half: usize) -> usize
-    requires { ⌜ Span word low (2 * half) ⌝ }
-    ensures { λ r. ⌜ Span word r half ⌝ }
+// Where the search goes on in a span of rows: in the upper half, unless its first word is over `word`.
+fn upper_rows(word: u32, low: usize, half: usize) -> usize
+    requires { ⌜ Span word (low * 8) (2 * half * 8) ⌝ }
+    ensures { λ r. ⌜ Span word (r * 8) (half * 8) ⌝ }
 {
     let middle = low + half;
-    if word_at(middle) <= word { middle } else { low }
+    if head(middle) <= word { middle } else { low }
+}
+
+// The first word of a row: one read of a table, where a word at any place takes the whole row.
+fn head(i: usize) -> u32
+    ensures { λ r. ⌜ r ≡ packedAt (i * 8) ⌝ }
+{
+    let row = rows::row(i);
+    row[0]
+}
+
+// The place in row `i` whose word is not over `word`, unless that is the first.
+fn last_in_row(row: &[u32; 8], i: usize, word: u32) -> usize
+    requires { ⌜ (now row ≡ rowOf i) × Span word (i * 8) 8 ⌝ }
+    ensures { λ r. ⌜ (r < 8) × Span word (i * 8 + r) 1 ⌝ }
+{
+    let a = upper_places(row, i, word, 0, 4);
+    let b = upper_places(row, i, word, a, 2);
+    upper_places(row, i, word, b, 1)
+}
+
+// Where the search goes on in a part of row `i`.
+fn upper_places(row: &[u32; 8], i: usize, word: u32, low: usize, half: usize) -> usize
+    requires { ⌜ (now row ≡ rowOf i) × (low + 2 * half ≤ 8) × (0 < half) × Span word (i * 8 + low) (2 * half) ⌝ }
+    ensures { λ r. ⌜ (r + half ≤ 8) × Span word (i * 8 + r) half ⌝ }
+{
+    let middle = low + half;
+    if row[middle] <= word { middle } else { low }
 }

@@ -47,11 +47,13 @@ module _ (s : List ℕ) (h : length s ≤ 128) (six : Six) (e : six ≡ sixOf (t
       let told = six-told (sixWords (tokens s)) (map packedToken (tokens s)) (replicate 6 0) six e a in
       f ∙ ap (λ (ws : List ℕ). foundAfter 1 [] (map foundOf ws)) (told .1)
       ∙ ap (foundAfter 1 []) (found-tokens (tokens s) (six-parts (tokens s) (told .0) .1))
-      ∙ sym (ap₂ (λ (a b : Bool). cond a (Reading.Refused Refusal.ReplyLong) (cond b (wordsReading (map upperText (tokens s))) (hexReading (unspaced s)))) (le-ltb 128 (length s) h) (told .0))
+      ∙ sym (ap₂ (λ (a b : Bool). cond a (Reading.Refused Refusal.ReplyLong)
+      (cond b (wordsReading (map upperText (tokens s))) (hexReading (unspaced s)))) (le-ltb 128 (length s) h) (told .0))
 
   pub as-hex : six .are ≡ false → r ≡ hexReading (unspaced s) → r ≡ readingOf s
   unfolding readingOf
   as-hex a f =
       f
-      ∙ sym (ap₂ (λ (a b : Bool). cond a (Reading.Refused Refusal.ReplyLong) (cond b (wordsReading (map upperText (tokens s))) (hexReading (unspaced s)))) (le-ltb 128 (length s) h)
+      ∙ sym (ap₂ (λ (a b : Bool). cond a (Reading.Refused Refusal.ReplyLong)
+      (cond b (wordsReading (map upperText (tokens s))) (hexReading (unspaced s)))) (le-ltb 128 (length s) h)
       (other-told (sixWords (tokens s)) (map packedToken (tokens s)) (replicate 6 0) six e a))

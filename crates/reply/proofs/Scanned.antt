@@ -91,8 +91,12 @@ scanned-none s = record { within = zero-le; size = refl; count = zero-le; rest =
 
 -- the list from k on starts with what stands at k
 at-head : (k : ℕ) (ts us : List (List ℕ)) (t : List ℕ) → drop k ts ≡ t ∷ us → (k < length ts) × (getD ts k [] ≡ t) × (drop (k + 1) ts ≡ us)
-at-head k ts us t e =
-    (omega (arith, length-drop k ts, ap length e), ap (λ (n : ℕ). getD ts n []) (sym (add-zero k)) ∙ sym (getD-drop k ts 0 []) ∙ ap (λ (l : List (List ℕ)). getD l 0 []) e, sym (drop-drop 1 k ts) ∙ ap (drop 1) e)
+at-head k ts us t e = (
+  omega (arith, length-drop k ts, ap length e),
+  ap (λ (n : ℕ). getD ts n []) (sym (add-zero k)) ∙ sym (getD-drop k ts 0 []) ∙ ap
+      (λ (l : List (List ℕ)). getD l 0 []) e,
+  sym (drop-drop 1 k ts) ∙ ap (drop 1) e,
+)
 
 piece-cons : (t : List ℕ) (ts : List (List ℕ)) → 0 < length t → piece t ++ ts ≡ t ∷ ts
 piece-cons [] ts h = absurd (omega arith)
@@ -100,7 +104,8 @@ piece-cons (b ∷ t) ts h = refl
 
 word-some : (t : List ℕ) → isWord t ≡ true → 0 < length t
 unfolding isWord
-word-some t e = leb-true 1 (length t) (both (leb 1 (length t)) (leb (length t) 4) (both (leb 1 (length t) && leb (length t) 4) (every isLetter t) e .0) .0)
+word-some t e = leb-true 1 (length t) (both (leb 1 (length t)) (leb (length t) 4)
+    (both (leb 1 (length t) && leb (length t) 4) (every isLetter t) e .0) .0)
 
 module _ (s : List ℕ) (k at : ℕ) (ws : List ℕ) (c : Scanned s k at ws) where
   -- the next token, where there is one
@@ -148,7 +153,8 @@ module _ (s : List ℕ) (k at : ℕ) (ws : List ℕ) (c : Scanned s k at ws) whe
           second-fails (eqb (length (tokens s)) 6) (every isWord (tokens s))
           (ap (every isWord) (sym (take-append-drop k (tokens s))) ∙ every-append isWord (take k (tokens s)) (drop k (tokens s))
           ∙ second-fails (every isWord (take k (tokens s))) (every isWord (drop k (tokens s)))
-          (ap (every isWord) (next (leb-true 1 (length t) b)) ∙ ap (λ (x : Bool). x && every isWord (tokens (drop (at + pastToken (drop at s)) s))) e))
+          (ap (every isWord) (next (leb-true 1 (length t) b)) ∙ ap
+          (λ (x : Bool). x && every isWord (tokens (drop (at + pastToken (drop at s)) s))) e))
 
       none : leb 1 (length t) ≡ false → sixWords (tokens s) ≡ false
       none b =

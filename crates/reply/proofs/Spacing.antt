@@ -47,7 +47,9 @@ module _ (ws : List ℕ) where
   -- the last word
   pub spaced-last : (k : ℕ) → length ws ≡ k + 1 → spaced spelt ≡ ended (take k spelt) ++ lettersOf (getD ws k 0)
   unfolding spacedFrom
-  spaced-last k h = ap spaced (sym (take-all (k + 1) spelt (omega (arith, length-map ws lettersOf))) ∙ spelt-at k (omega arith)) ∙ spaced-ended (take k spelt) (lettersOf (getD ws k 0)) []
+  spaced-last k h =
+      ap spaced (sym (take-all (k + 1) spelt (omega (arith, length-map ws lettersOf))) ∙ spelt-at k (omega arith)) ∙
+      spaced-ended (take k spelt) (lettersOf (getD ws k 0)) []
 
   pub more-length : (k : ℕ) → k < length ws → length (ended (take (k + 1) spelt)) ≡ length (ended (take k spelt)) + (length (lettersOf (getD ws k 0)) + 1)
   more-length k h =

@@ -60,7 +60,8 @@ words-accepted text h e p = (accepted, written)
         let parts = six-parts ts e in
         let found = found-password 1 [] (map placeOf (map upperText ts)) p (sym (reads-words text h e) ∙ r) in
         let count : length (found .0) ≡ 6 =
-        sym (length-map (found .0) Found.At) ∙ sym (ap length (found .1)) ∙ length-map (map upperText ts) placeOf ∙ length-map ts upperText ∙ parts .0 in
+        sym (length-map (found .0) Found.At) ∙ sym (ap length (found .1)) ∙ length-map (map upperText ts) placeOf ∙ length-map ts upperText
+        ∙ parts .0 in
         let number = number-accepted (found .0) count p .0 (found .2) in
         (number .0, found-tokens ts (found .0) (parts .1) (found .1) ∙ ap (map wordAt) (sym (number .1)))
 
@@ -98,7 +99,8 @@ words-length p h = go (placesOf p) (places-all p h) (places-count p)
 six-words-of : (p : ℕ) → p < 2 ^ 64 → sixWords (sixWordsOf p) ≡ true
 unfolding sixWords
 six-words-of p h =
-    ap₂ (λ (a b : Bool). a && b) (eq-eqb (length (sixWordsOf p)) 6 (length-map (placesOf p) wordAt ∙ places-count p)) (places-words (placesOf p) (places-all p h))
+    ap₂ (λ (a b : Bool). a && b) (eq-eqb (length (sixWordsOf p)) 6 (length-map (placesOf p) wordAt ∙ places-count p))
+    (places-words (placesOf p) (places-all p h))
 
 -- the words that a password is written with read as it
 pub words-written-read : (p : ℕ) → p < 2 ^ 64 → readingOf (wordsOf p) ≡ Reading.Password p
@@ -149,7 +151,8 @@ hex-accepted text h e p = (accepted, written)
         let u = unspaced text in
         let count : length u ≡ 16 = sym (length-map u lowerOf) ∙ ap length (w .1) ∙ length-digits 16 16 p in
         let digits : every isHex u ≡ true = sym (every-lower-hex u) ∙ ap (every isHex) (w .1) ∙ digits-hex 16 p in
-        let number : numberOf 16 u ≡ p = sym (number-lower 16 0 u) ∙ ap (numberOf 16) (w .1) ∙ number-digits 16 16 p (omega arith) (omega arith) (w .0) in
+        let number : numberOf 16 u ≡ p = sym (number-lower 16 0 u) ∙ ap (numberOf 16) (w .1) ∙ number-digits 16 16 p (omega arith) (omega arith)
+        (w .0) in
         reads-hex text h e ∙ hex-reading u count digits ∙ ap Reading.Password number
 
 pub hex-length : (p : ℕ) → length (hexOf p) ≡ 16

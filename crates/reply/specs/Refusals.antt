@@ -64,7 +64,8 @@ words-why found why e f = go (looked found)
     go : Looked found → why ≡ Refusal.PairSumWrong
     go (all ps a) = sum (placesNumber ps) (sym (found-all 1 [] ps) ∙ ap (foundAfter 1 []) (sym a) ∙ e)
     go (first ps rest a) =
-        let told : Reading.Refused (Refusal.WordUnknown (1 + length ps)) ≡ Reading.Refused why = sym (found-first 1 [] ps rest) ∙ ap (foundAfter 1 []) (sym a) ∙ e in
+        let told : Reading.Refused (Refusal.WordUnknown (1 + length ps)) ≡ Reading.Refused why = sym (found-first 1 [] ps rest) ∙ ap (foundAfter 1 [])
+        (sym a) ∙ e in
         absurd (f (1 + length ps) (cc))
 
 -- a refusal of hex is 33
@@ -230,7 +231,8 @@ module _ (text : List ℕ) (h : length text ≤ 128) (e : sixWords (tokens text)
           let spelt = spelt-in (tokens text) (map wordAt (f .ps)) (f .w) (f .rest) (six-parts (tokens text) e .1) (f .split) in
           answer (map Found.At (f .ps) ++ Found.Nothing ∷ map placeOf (f .rest))
           (ap (map placeOf) (f .split) ∙ map-append placeOf (map wordAt (f .ps)) (f .w ∷ f .rest)
-          ∙ ap₂ (λ (l : List Found) (m : Found). l ++ m ∷ map placeOf (f .rest)) (places-found (f .ps) (f .known)) (nowhere (f .w) spelt (f .unknown)))
+          ∙ ap₂ (λ (l : List Found) (m : Found). l ++ m ∷ map placeOf (f .rest)) (places-found (f .ps) (f .known))
+          (nowhere (f .w) spelt (f .unknown)))
           ∙ found-first 1 [] (f .ps) (map placeOf (f .rest))
           ∙ ap (λ (m : ℕ). Reading.Refused (Refusal.WordUnknown m)) (sym (f .place))
 
@@ -252,7 +254,10 @@ module _ (text : List ℕ) (h : length text ≤ 128) (e : sixWords (tokens text)
           never (cc)
 
       back : SumRefused ws → readingOf text ≡ Reading.Refused Refusal.PairSumWrong
-      back f = answer (map Found.At (f .ps)) (ap (map placeOf) (f .words) ∙ places-found (f .ps) (f .known)) ∙ found-all 1 [] (f .ps) ∙ wrong (placesNumber (f .ps)) refl
+      back f =
+          answer (map Found.At (f .ps)) (ap (map placeOf) (f .words) ∙ places-found (f .ps) (f .known)) ∙
+          found-all 1 [] (f .ps) ∙
+          wrong (placesNumber (f .ps)) refl
         where
           count : length (f .ps) ≡ 6
           count = sym (length-map (f .ps) wordAt) ∙ ap length (sym (f .words)) ∙ length-map (tokens text) upperText ∙ six-parts (tokens text) e .0
@@ -287,5 +292,6 @@ reply-refusals text why e =
     let short = leb-true (length text) 128 t in
     cases (sixWords (tokens text))
     (λ s. found-refusals 1 [] (map placeOf (map upperText (tokens text))) why (sym (reads-words text short s) ∙ e))
-    (λ s. same-why Refusal.ReplyUnread why (ap Reading.Refused (sym (hex-why (unspaced text) why (sym (reads-hex text short s) ∙ e) .1))) (omega arith)))
+    (λ s. same-why Refusal.ReplyUnread why (ap Reading.Refused (sym (hex-why (unspaced text) why (sym (reads-hex text short s) ∙ e) .1)))
+    (omega arith)))
     (λ t. same-why Refusal.ReplyLong why (sym (long-refused text .1 (leb-false (length text) 128 t)) ∙ e) (omega arith))

@@ -75,8 +75,10 @@ module _ (i : ℕ) (h : i < 2048) where
   unfolding isWord
   dictionary-word =
       let spelt = word-spelt i h in
-      let letters : every isLetter (wordAt i) ≡ true = every-from isLetter (wordAt i) (λ k l. let u = word-upper i h k l in upper-letter (getD (wordAt i) k 0) (u .0) (u .1)) in
-      ap₂ (λ (a b : Bool). a && b) (ap₂ (λ (a b : Bool). a && b) (le-leb 1 (length (wordAt i)) (spelt .some)) (le-leb (length (wordAt i)) 4 (spelt .few))) letters
+      let letters : every isLetter (wordAt i) ≡ true = every-from isLetter (wordAt i)
+      (λ k l. let u = word-upper i h k l in upper-letter (getD (wordAt i) k 0) (u .0) (u .1)) in
+      ap₂ (λ (a b : Bool). a && b) (ap₂ (λ (a b : Bool). a && b) (le-leb 1 (length (wordAt i)) (spelt .some))
+      (le-leb (length (wordAt i)) 4 (spelt .few))) letters
 
   pub dictionary-solid : every isSolid (wordAt i) ≡ true
   dictionary-solid = every-from isSolid (wordAt i) (λ k l. let u = word-upper i h k l in past-space-solid (getD (wordAt i) k 0) (omega arith))

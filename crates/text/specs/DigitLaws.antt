@@ -50,7 +50,8 @@ digit-read d h = either (λ (b : ℕ). digitValue b ≡ d) (ltb d 10) (λ e. low
     high : 10 ≤ d → digitValue (87 + d) ≡ d
     high g =
         let k = kept g in
-        value-letter (87 + d) (ap₂ (λ (a b : Bool). a && b) (le-leb 48 (87 + d) (omega arith)) (lt-leb (87 + d) 57 (omega arith))) (omega arith) (omega arith) ∙ omega arith
+        value-letter (87 + d) (ap₂ (λ (a b : Bool). a && b) (le-leb 48 (87 + d) (omega arith)) (lt-leb (87 + d) 57 (omega arith))) (omega arith)
+        (omega arith) ∙ omega arith
 
 -- a digit of either case is written as its lower case
 pub digit-written : (b : ℕ) → digitValue b < 16 → digitOf (digitValue b) ≡ lowerOf b
@@ -142,7 +143,8 @@ unfolding digitsOf every
 digits-hex zero n = refl
 digits-hex (suc k) n =
     let small = mod-lt n {m = 16} (omega arith) in
-    let last : isHex (digitOf (n % 16)) ≡ true = hex-value (digitOf (n % 16)) ∙ ap (λ (v : ℕ). ltb v 16) (digit-read (n % 16) small) ∙ lt-ltb (n % 16) 16 small in
+    let last : isHex (digitOf (n % 16)) ≡ true = hex-value (digitOf (n % 16)) ∙ ap (λ (v : ℕ). ltb v 16) (digit-read (n % 16) small) ∙ lt-ltb
+    (n % 16) 16 small in
     every-append isHex (digitsOf 16 k (n / 16)) (digitOf (n % 16) ∷ []) ∙ ap₂ (λ (a b : Bool). a && (b && true)) (digits-hex k (n / 16)) last
 
 -- a hex digit is no white space

@@ -68,12 +68,16 @@ spelt base b i r h =
     ap (λ (k : ℕ). digitsOf base k r ++ drop k b) (add-one i)
     ∙ append-snoc (digitsOf base i (r / base)) (digitOf (r % base)) (drop (suc i) b)
     ∙ ap (λ (l : List ℕ). digitsOf base i (r / base) ++ l)
-    (sym (ap (drop i) (set-split b i (digitOf (r % base)) h) ∙ drop-at (take i b) (digitOf (r % base) ∷ drop (suc i) b) i (length-take-le i b (omega arith))))
+    (sym (ap (drop i) (set-split b i (digitOf (r % base)) h) ∙ drop-at (take i b) (digitOf (r % base) ∷ drop (suc i) b) i
+    (length-take-le i b (omega arith))))
 
 -- a text that was put where it had room was written
 pub put-writes : (t b b′ : List ℕ) (n : ℕ) → length t ≤ length b → Put t b b′ n → Writes t b b′ (Written.Wrote n)
-put-writes t b b′ n h p =
-    (ap Written.Wrote (p .0) ∙ sym (ap (λ (e : Bool). cond e (Written.Wrote (length t)) (Written.Refused Refusal.BufferShort)) (le-leb (length t) (length b) h)), p .1)
+put-writes t b b′ n h p = (
+  ap Written.Wrote (p .0) ∙ sym (ap (λ (e : Bool). cond e (Written.Wrote (length t)) (Written.Refused Refusal.BufferShort))
+      (le-leb (length t) (length b) h)),
+  p .1,
+)
 
 -- a text without room is refused, and the buffer is as it was
 pub short-writes : (t b : List ℕ) → length b < length t → Writes t b b (Written.Refused Refusal.BufferShort)

@@ -23,7 +23,8 @@ upper-kept b g = rw (lt-leb 97 b (omega arith))
 -- a letter in upper case is one of `A` to `Z`
 pub letter-upper : (b : ℕ) → isLetter b ≡ true → (65 ≤ upperOf b) × (upperOf b ≤ 90)
 letter-upper b e =
-    either (λ (c : ℕ). (65 ≤ c) × (c ≤ 90)) (isLower b) lower (λ f. upper f (cases (isUpper b) (λ g. g) (λ g. absurd (true≢false (sym e ∙ ap₂ (λ (x y : Bool). x || y) g f)))))
+    either (λ (c : ℕ). (65 ≤ c) × (c ≤ 90)) (isLower b) lower
+    (λ f. upper f (cases (isUpper b) (λ g. g) (λ g. absurd (true≢false (sym e ∙ ap₂ (λ (x y : Bool). x || y) g f)))))
   where
     lower : isLower b ≡ true → (65 ≤ b - 32) × (b - 32 ≤ 90)
     lower f =

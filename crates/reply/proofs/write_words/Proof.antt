@@ -18,7 +18,8 @@ returns c =
 returns-2 : tie.Need-returns-2
 returns-2 c =
     let a = c .before .before .before .before .before .before .before .before .args in
-    let text = words-text (a .password) (c .before .before .before .before .before .before .words-of .result) (search needs) (c .before .before .before .before .before .before .words-of .ensures) in
+    let text = words-text (a .password) (c .before .before .before .before .before .before .words-of .result) (search needs)
+    (c .before .before .before .before .before .before .words-of .ensures) in
     put-writes (wordsOf (a .password)) (a .buf .now) (c .before .before .put-words .last .0) (c .before .before .put-words .result)
     (omega (arith, ap length text, c .before .before .before .before .before .length-of .ensures, c .before .before .before .before .if1 .left))
     (rw (← text) (c .before .before .put-words .ensures))

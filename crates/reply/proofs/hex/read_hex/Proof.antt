@@ -30,7 +30,8 @@ loop-again c =
       at .inv .1,
       at .inv .2,
       at .inv .3
-          ∙ ap (hexAfter (at .n) (at .value)) (white-byte s (at .i) (c .before .before .before .loop-test .taken) (sym (c .before .is-white .ensures) ∙ c .if1 .taken)),
+          ∙ ap (hexAfter (at .n) (at .value)) (white-byte s (at .i) (c .before .before .before .loop-test .taken)
+          (sym (c .before .is-white .ensures) ∙ c .if1 .taken)),
     )
 
 returns : tie.Need-returns Inv-loop μ-loop
@@ -39,8 +40,10 @@ returns c =
     let s = c .before .before .before .before .before .before .before .before .args .s .now in
     sym
     (at .inv .3
-    ∙ ap (hexAfter (at .n) (at .value)) (solid-byte s (at .i) (c .before .before .before .before .before .loop-test .taken) (sym (c .before .before .before .is-white .ensures) ∙ c .before .before .if1 .left))
-    ∙ hex-other (at .n) (at .value) (getD s (at .i) 0) (c .before .digit-value .result) (unspaced (drop (at .i + 1) s)) (c .before .digit-value .ensures) (c .if2 .taken))
+    ∙ ap (hexAfter (at .n) (at .value)) (solid-byte s (at .i) (c .before .before .before .before .before .loop-test .taken)
+    (sym (c .before .before .before .is-white .ensures) ∙ c .before .before .if1 .left))
+    ∙ hex-other (at .n) (at .value) (getD s (at .i) 0) (c .before .digit-value .result) (unspaced (drop (at .i + 1) s))
+    (c .before .digit-value .ensures) (c .if2 .taken))
 
 returns-2 : tie.Need-returns-2 Inv-loop μ-loop
 returns-2 c =
@@ -48,7 +51,8 @@ returns-2 c =
     let s = c .before .before .before .before .before .before .before .before .before .args .s .now in
     sym
     (at .inv .3
-    ∙ ap (hexAfter (at .n) (at .value)) (solid-byte s (at .i) (c .before .before .before .before .before .before .loop-test .taken) (sym (c .before .before .before .before .is-white .ensures) ∙ c .before .before .before .if1 .left))
+    ∙ ap (hexAfter (at .n) (at .value)) (solid-byte s (at .i) (c .before .before .before .before .before .before .loop-test .taken)
+    (sym (c .before .before .before .before .is-white .ensures) ∙ c .before .before .before .if1 .left))
     ∙ hex-long (at .n) (at .value) (getD s (at .i) 0) (unspaced (drop (at .i + 1) s)) (c .if3 .taken))
 
 mul-value : tie.Need-mul-value Inv-loop μ-loop
@@ -71,21 +75,25 @@ loop-again-2 c =
       omega arith,
       hex-grows (at .value) d (at .n) (at .inv .2) (omega arith),
       at .inv .3
-          ∙ ap (hexAfter (at .n) (at .value)) (solid-byte s (at .i) (c .before .before .before .before .before .before .loop-test .taken) (sym (c .before .before .before .before .is-white .ensures) ∙ c .before .before .before .if1 .left))
-          ∙ hex-digit (at .n) (at .value) (getD s (at .i) 0) d (unspaced (drop (at .i + 1) s)) (c .before .before .digit-value .ensures) (omega arith),
+          ∙ ap (hexAfter (at .n) (at .value)) (solid-byte s (at .i) (c .before .before .before .before .before .before .loop-test .taken)
+          (sym (c .before .before .before .before .is-white .ensures) ∙ c .before .before .before .if1 .left))
+          ∙ hex-digit (at .n) (at .value) (getD s (at .i) 0) d (unspaced (drop (at .i + 1) s)) (c .before .before .digit-value .ensures)
+          (omega arith),
     )
 
 returns-3 : tie.Need-returns-3 Inv-loop μ-loop
 returns-3 c =
     let at = c .before .before .loop in
     let s = c .before .before .before .before .args .s .now in
-    sym (at .inv .3 ∙ ap (hexAfter (at .n) (at .value)) (none-left s (at .i) (c .before .loop-test .left)) ∙ hex-end (at .n) (at .value) (c .if4 .taken))
+    sym (at .inv .3 ∙ ap (hexAfter (at .n) (at .value)) (none-left s (at .i) (c .before .loop-test .left)) ∙ hex-end (at .n) (at .value)
+    (c .if4 .taken))
 
 returns-4 : tie.Need-returns-4 Inv-loop μ-loop
 returns-4 c =
     let at = c .before .before .loop in
     let s = c .before .before .before .before .args .s .now in
-    sym (at .inv .3 ∙ ap (hexAfter (at .n) (at .value)) (none-left s (at .i) (c .before .loop-test .left)) ∙ hex-short (at .n) (at .value) (c .if4 .left))
+    sym (at .inv .3 ∙ ap (hexAfter (at .n) (at .value)) (none-left s (at .i) (c .before .loop-test .left)) ∙ hex-short (at .n) (at .value)
+    (c .if4 .left))
 
 pub read-hex-spec : {M : Type 1} → statement M
 read-hex-spec =

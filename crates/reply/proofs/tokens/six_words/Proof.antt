@@ -20,33 +20,49 @@ loop-holds c = (omega arith, scanned-none (c .before .args .s .now))
 add-from : tie.Need-add-from Inv-loop μ-loop
 add-from c =
     let at = c .before .before .loop in
-    omega (arith, c .before .before .before, white-within (c .before .before .before .before .args .s .now) (at .at) (c .run .result) (at .inv .1 .within) (c .run .ensures))
+    omega (
+      arith,
+      c .before .before .before,
+      white-within (c .before .before .before .before .args .s .now) (at .at) (c .run .result)
+          (at .inv .1 .within) (c .run .ensures),
+    )
 
 add-at : tie.Need-add-at Inv-loop μ-loop
 add-at c =
     let at = c .before .before .before .loop in
-    omega (arith, token-within (c .before .before .before .before .before .args .s .now) (at .k) (at .at) (at .words) (at .inv .1) (c .before .run .result) (c .run2 .result) (c .before .run .ensures) (c .run2 .ensures))
+    omega (
+      arith,
+      token-within (c .before .before .before .before .before .args .s .now) (at .k) (at .at) (at .words) (at .inv .1)
+          (c .before .run .result) (c .run2 .result) (c .before .run .ensures) (c .run2 .ensures),
+    )
 
 part-word-of-end : tie.Need-part-word-of-end Inv-loop μ-loop
 part-word-of-end c =
     let at = c .before .before .before .loop in
-    token-within (c .before .before .before .before .before .args .s .now) (at .k) (at .at) (at .words) (at .inv .1) (c .before .run .result) (c .run2 .result) (c .before .run .ensures) (c .run2 .ensures)
+    token-within (c .before .before .before .before .before .args .s .now) (at .k) (at .at) (at .words) (at .inv .1) (c .before .run .result)
+    (c .run2 .result) (c .before .run .ensures) (c .run2 .ensures)
 
 returns : tie.Need-returns Inv-loop μ-loop
 returns c =
     let at = c .before .before .before .before .before .before .before .loop in
     let s = c .before .before .before .before .before .before .before .before .before .args .s .now in
     none-six s
-    (stopped s (at .k) (at .at) (at .words) (at .inv .1) (c .before .before .before .before .before .run .result) (c .before .before .before .before .run2 .result) (c .before .before .before .before .before .run .ensures) (c .before .before .before .before .run2 .ensures)
-    (c .before .before .word-of .result) (c .before .before .word-of .ensures) (c .before .before .before .before .before .before .loop-test .taken) (c .enum-told .given .1))
+    (stopped s (at .k) (at .at) (at .words) (at .inv .1) (c .before .before .before .before .before .run .result)
+    (c .before .before .before .before .run2 .result) (c .before .before .before .before .before .run .ensures)
+    (c .before .before .before .before .run2 .ensures)
+    (c .before .before .word-of .result) (c .before .before .word-of .ensures) (c .before .before .before .before .before .before .loop-test .taken)
+    (c .enum-told .given .1))
 
 loop-again : tie.Need-loop-again Inv-loop μ-loop
 loop-again c =
     let at = c .before .before .before .before .before .before .before .before .loop in
     let s = c .before .before .before .before .before .before .before .before .before .before .args .s .now in (
       omega arith,
-      turned s (at .k) (at .at) (at .words) (at .inv .1) (c .before .before .before .before .before .before .run .result) (c .before .before .before .before .before .run2 .result) (c .before .before .before .before .before .before .run .ensures) (c .before .before .before .before .before .run2 .ensures)
-          (c .before .before .before .word-of .result) (c .before .before .before .word-of .ensures) (c .before .before .before .before .before .before .before .loop-test .taken) (c .before .word .given .0 .0) (c .before .word .given .1),
+      turned s (at .k) (at .at) (at .words) (at .inv .1) (c .before .before .before .before .before .before .run .result)
+          (c .before .before .before .before .before .run2 .result) (c .before .before .before .before .before .before .run .ensures)
+          (c .before .before .before .before .before .run2 .ensures)
+          (c .before .before .before .word-of .result) (c .before .before .before .word-of .ensures)
+          (c .before .before .before .before .before .before .before .loop-test .taken) (c .before .word .given .0 .0) (c .before .word .given .1),
     )
 
 add-if1 : tie.Need-add-if1 Inv-loop μ-loop

@@ -36,7 +36,8 @@ returns-3 : tie.Need-returns-3 Inv-loop μ-loop
 returns-3 c =
     let at = c .before .before .before .before .loop in
     let t = c .before .before .before .before .before .before .before .before .args .t .now in
-    mixed-other t (at .inv .2 ∙ other-byte t (at .i) (c .before .before .before .loop-test .taken) (sym (c .before .is-letter .ensures) ∙ not-true _ (c .if3 .taken)))
+    mixed-other t (at .inv .2 ∙ other-byte t (at .i) (c .before .before .before .loop-test .taken)
+    (sym (c .before .is-letter .ensures) ∙ not-true _ (c .if3 .taken)))
 
 mul-letters : tie.Need-mul-letters Inv-loop μ-loop
 mul-letters c =
@@ -49,7 +50,11 @@ cast-letters c = omega (arith, c .upper .ok)
 add-letters : tie.Need-add-letters Inv-loop μ-loop
 add-letters c =
     let at = c .before .before .before .before .before .loop in
-    omega (arith, four-fit (at .letters * 256 + c .upper .result) (at .i + 1) (letter-grows (at .letters) (c .upper .result) (at .i) (at .inv .1) (omega (arith, c .upper .ok))) (omega arith))
+    omega (
+      arith,
+      four-fit (at .letters * 256 + c .upper .result) (at .i + 1)
+          (letter-grows (at .letters) (c .upper .result) (at .i) (at .inv .1) (omega (arith, c .upper .ok))) (omega arith),
+    )
 
 loop-again : tie.Need-loop-again Inv-loop μ-loop
 loop-again c =

@@ -13,4 +13,5 @@ letters-spec =
     (λ c. sym (ap length (four-letters (c .before .args .word) (c .if1 .taken))))
     (λ c. sym (ap length (one-letter (c .before .before .args .word) (c .before .if1 .left) (c .if2 .taken))))
     (λ c. sym (ap length (two-letters (c .before .before .before .args .word) (c .before .before .if1 .left) (c .before .if2 .left) (c .if3 .taken))))
-    (λ c. sym (ap length (three-letters (c .before .before .before .args .word) (c .before .before .if1 .left) (c .before .if2 .left) (c .if3 .left)))))
+    (λ c. sym (ap length (three-letters (c .before .before .before .args .word) (c .before .before .if1 .left) (c .before .if2 .left)
+    (c .if3 .left)))))

@@ -28,17 +28,28 @@ put-letters-spec =
     (λ c. omega (arith, first-letter (c .before .args .word) (c .if1 .left)))
     (λ c. simp length-set)
     (λ c.
-    put-one (lettersOf (c .before .before .args .word)) (c .before .before .args .buf .now) _ (one-letter (c .before .before .args .word) (c .before .if1 .left) (c .if2 .taken))
+    put-one (lettersOf (c .before .before .args .word)) (c .before .before .args .buf .now) _
+    (one-letter (c .before .before .args .word) (c .before .if1 .left) (c .if2 .taken))
     (omega (arith, first-letter (c .before .before .args .word) (c .before .if1 .left))))
     (λ c. search needs)
     (λ c. simp length-set (omega (arith, second-letter (c .before .before .args .word) (c .before .if1 .left) (c .if2 .left))))
     (λ c. simp length-set)
     (λ c.
-    put-two (lettersOf (c .before .before .before .args .word)) (c .before .before .before .args .buf .now) _ _ (two-letters (c .before .before .before .args .word) (c .before .before .if1 .left) (c .before .if2 .left) (c .if3 .taken))
+    put-two (lettersOf (c .before .before .before .args .word)) (c .before .before .before .args .buf .now) _ _
+    (two-letters (c .before .before .before .args .word) (c .before .before .if1 .left) (c .before .if2 .left) (c .if3 .taken))
     (omega (arith, second-letter (c .before .before .before .args .word) (c .before .before .if1 .left) (c .before .if2 .left))))
     (λ c. search needs)
-    (λ c. simp length-set (omega (arith, ap length (three-letters (c .before .before .before .args .word) (c .before .before .if1 .left) (c .before .if2 .left) (c .if3 .left)))))
+    (λ c. simp length-set (omega (
+      arith,
+      ap length
+          (three-letters (c .before .before .before .args .word) (c .before .before .if1 .left) (c .before .if2 .left) (c .if3 .left)),
+    )))
     (λ c. simp length-set)
     (λ c.
-    put-three (lettersOf (c .before .before .before .args .word)) (c .before .before .before .args .buf .now) _ _ _ (three-letters (c .before .before .before .args .word) (c .before .before .if1 .left) (c .before .if2 .left) (c .if3 .left))
-    (omega (arith, ap length (three-letters (c .before .before .before .args .word) (c .before .before .if1 .left) (c .before .if2 .left) (c .if3 .left))))))
+    put-three (lettersOf (c .before .before .before .args .word)) (c .before .before .before .args .buf .now) _ _ _
+    (three-letters (c .before .before .before .args .word) (c .before .before .if1 .left) (c .before .if2 .left) (c .if3 .left))
+    (omega (
+      arith,
+      ap length (three-letters (c .before .before .before .args .word) (c .before .before .if1 .left) (c .before .if2 .left)
+          (c .if3 .left)),
+    ))))

@@ -33,44 +33,72 @@ put-word-requires : tie.Need-put-word-requires Inv-loop μ-loop
 put-word-requires c κs =
     let at = c .before .before .loop in
     let a = c .before .before .before .before .args in
-    word-room (a .t2) (a .buf .now) (at .buf) (at .k) (at .at) (at .inv .1) (c .before .before .before .before .pre) (at .inv .2) (at .inv .4) (omega arith)
+    word-room (a .t2) (a .buf .now) (at .buf) (at .k) (at .at) (at .inv .1) (c .before .before .before .before .pre) (at .inv .2) (at .inv .4)
+    (omega arith)
 
 add-at : tie.Need-add-at Inv-loop μ-loop
 add-at c =
     let at = c .before .before .before .before .before .loop in
     let a = c .before .before .before .before .before .before .before .args in
-    omega (arith, word-fits (a .t2) (a .buf .now) (at .buf) (at .k) (at .at) (at .inv .1) (c .before .before .before .before .before .before .before .pre) (at .inv .2) (at .inv .4) (c .before .before .put-word .last .0) (c .before .before .put-word .result) (omega arith) (c .before .before .put-word .ensures) .0)
+    omega (
+      arith,
+      word-fits (a .t2) (a .buf .now) (at .buf) (at .k) (at .at) (at .inv .1)
+          (c .before .before .before .before .before .before .before .pre) (at .inv .2) (at .inv .4) (c .before .before .put-word .last .0)
+          (c .before .before .put-word .result) (omega arith) (c .before .before .put-word .ensures) .0,
+    )
 
 loop-again : tie.Need-loop-again Inv-loop μ-loop
 loop-again c =
     let at = c .before .before .before .before .before .loop in
     let a = c .before .before .before .before .before .before .before .args in
-    let fits = word-fits (a .t2) (a .buf .now) (at .buf) (at .k) (at .at) (at .inv .1) (c .before .before .before .before .before .before .before .pre) (at .inv .2) (at .inv .4) (c .before .before .put-word .last .0) (c .before .before .put-word .result) (omega arith) (c .before .before .put-word .ensures) in
-    (omega arith, at .inv .1, fits .1, omega (arith, fits .0, fits .1), word-put (a .t2) (a .buf .now) (at .buf) (at .k) (at .at) (at .inv .1) (c .before .before .before .before .before .before .before .pre) (at .inv .2) (at .inv .4) (c .before .before .put-word .last .0) (c .before .before .put-word .result) (omega arith) (c .before .before .put-word .ensures))
+    let fits = word-fits (a .t2) (a .buf .now) (at .buf) (at .k) (at .at) (at .inv .1)
+    (c .before .before .before .before .before .before .before .pre) (at .inv .2) (at .inv .4) (c .before .before .put-word .last .0)
+    (c .before .before .put-word .result) (omega arith) (c .before .before .put-word .ensures) in (
+      omega arith,
+      at .inv .1,
+      fits .1,
+      omega (arith, fits .0, fits .1),
+      word-put (a .t2) (a .buf .now) (at .buf) (at .k) (at .at) (at .inv .1)
+          (c .before .before .before .before .before .before .before .pre) (at .inv .2) (at .inv .4) (c .before .before .put-word .last .0)
+          (c .before .before .put-word .result) (omega arith) (c .before .before .put-word .ensures),
+    )
 
 put-letters-requires : tie.Need-put-letters-requires Inv-loop μ-loop
 put-letters-requires c κs =
     let at = c .before .before .loop in
     let a = c .before .before .before .before .args in
-    last-room (a .t2) (a .buf .now) (at .buf) (at .k) (at .at) (at .inv .1) (c .before .before .before .before .pre) (at .inv .2) (at .inv .4) (omega arith)
+    last-room (a .t2) (a .buf .now) (at .buf) (at .k) (at .at) (at .inv .1) (c .before .before .before .before .pre) (at .inv .2) (at .inv .4)
+    (omega arith)
 
 add-result : tie.Need-add-result Inv-loop μ-loop
 add-result c =
     let at = c .before .before .before .before .before .loop in
     let a = c .before .before .before .before .before .before .before .args in
-    omega (arith, last-put (a .t2) (a .buf .now) (at .buf) (at .k) (at .at) (at .inv .1) (c .before .before .before .before .before .before .before .pre) (at .inv .2) (at .inv .4) (omega arith) (c .before .before .put-letters .last .0) (c .before .before .put-letters .result) (c .before .before .put-letters .ensures) .0, c .before .before .before .before .before .before .before .pre)
+    omega (
+      arith,
+      last-put (a .t2) (a .buf .now) (at .buf) (at .k) (at .at) (at .inv .1)
+          (c .before .before .before .before .before .before .before .pre) (at .inv .2) (at .inv .4) (omega arith) (c .before .before .put-letters .last .0)
+          (c .before .before .put-letters .result)
+          (c .before .before .put-letters .ensures) .0,
+      c .before .before .before .before .before .before .before .pre,
+    )
 
 same-length : tie.Need-same-length Inv-loop μ-loop
 same-length c =
     let at = c .before .before .before .before .before .loop in
     let a = c .before .before .before .before .before .before .before .args in
-    ap length (last-put (a .t2) (a .buf .now) (at .buf) (at .k) (at .at) (at .inv .1) (c .before .before .before .before .before .before .before .pre) (at .inv .2) (at .inv .4) (omega arith) (c .before .before .put-letters .last .0) (c .before .before .put-letters .result) (c .before .before .put-letters .ensures) .1) ∙ length-front (spaced (map lettersOf (a .t2))) (a .buf .now) (c .before .before .before .before .before .before .before .pre)
+    ap length (last-put (a .t2) (a .buf .now) (at .buf) (at .k) (at .at) (at .inv .1) (c .before .before .before .before .before .before .before .pre)
+    (at .inv .2) (at .inv .4) (omega arith) (c .before .before .put-letters .last .0) (c .before .before .put-letters .result)
+    (c .before .before .put-letters .ensures) .1) ∙ length-front (spaced (map lettersOf (a .t2))) (a .buf .now)
+    (c .before .before .before .before .before .before .before .pre)
 
 returns : tie.Need-returns Inv-loop μ-loop
 returns c =
     let at = c .before .before .before .before .before .loop in
     let a = c .before .before .before .before .before .before .before .args in
-    last-put (a .t2) (a .buf .now) (at .buf) (at .k) (at .at) (at .inv .1) (c .before .before .before .before .before .before .before .pre) (at .inv .2) (at .inv .4) (omega arith) (c .before .before .put-letters .last .0) (c .before .before .put-letters .result) (c .before .before .put-letters .ensures)
+    last-put (a .t2) (a .buf .now) (at .buf) (at .k) (at .at) (at .inv .1) (c .before .before .before .before .before .before .before .pre)
+    (at .inv .2) (at .inv .4) (omega arith) (c .before .before .put-letters .last .0) (c .before .before .put-letters .result)
+    (c .before .before .put-letters .ensures)
 
 pub put-words-spec : {M : Type 1} → statement M
 put-words-spec =

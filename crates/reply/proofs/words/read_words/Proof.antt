@@ -25,7 +25,8 @@ abbrev μ-loop : tie.MeasureT-loop
 returns : tie.Need-returns Inv-loop μ-loop
 returns c =
     let at = c .before .before .before .before .loop in
-    sym (at .inv .3 ∙ sym (word-unknown (c .before .before .before .before .before .args .t1) (at .places) (at .k) (omega arith) (c .before .before .place-of .result) (c .before .before .place-of .ensures) (c .enum-told .given .1)))
+    sym (at .inv .3 ∙ sym (word-unknown (c .before .before .before .before .before .args .t1) (at .places) (at .k) (omega arith)
+    (c .before .before .place-of .result) (c .before .before .place-of .ensures) (c .enum-told .given .1)))
 
 loop-again : tie.Need-loop-again Inv-loop μ-loop
 loop-again c =
@@ -34,7 +35,8 @@ loop-again c =
       at .inv .1,
       simp length-set (at .inv .2),
       at .inv .3
-          ∙ word-known (c .before .before .before .before .before .before .args .t1) (at .places) (at .k) (omega arith) (c .before .before .before .place-of .result) (c .before .found .given .0 .0) (omega arith)
+          ∙ word-known (c .before .before .before .before .before .before .args .t1) (at .places) (at .k) (omega arith)
+          (c .before .before .before .place-of .result) (c .before .found .given .0 .0) (omega arith)
           (c .before .before .before .place-of .ensures) (c .before .found .given .1),
     )
 
