@@ -30,11 +30,11 @@ one-more p k ps x y i h l z s f phrase seed low e =
     let here : low + (k - i) ≡ low + (k - 1 - (i - 1)) = omega arith in (
       s ∙ ap (λ (v : ℕ). hash Algorithm.md5 (bytesOf v)) (known .0) ∙ ap (password Algorithm.md5 phrase seed) up,
       λ j a b. cases (eqb j (i - 1))
-      (λ t.
-      let same = eqb-true j (i - 1) t in
-      ap (λ (n : ℕ). getD (set ps (i - 1) x) n 0) same ∙ getD-set-same ps (i - 1) x 0 (omega arith) ∙ known .0
-      ∙ ap (password Algorithm.md5 phrase seed) here ∙ ap (λ (n : ℕ). password Algorithm.md5 phrase seed (low + (k - 1 - n))) (sym same))
-      (λ t. let other = eqb-false j (i - 1) t in getD-set-other ps (i - 1) j x 0 other ∙ known .1 j (above j a other) b),
+          (λ t.
+          let same = eqb-true j (i - 1) t in
+          ap (λ (n : ℕ). getD (set ps (i - 1) x) n 0) same ∙ getD-set-same ps (i - 1) x 0 (omega arith) ∙ known .0
+          ∙ ap (password Algorithm.md5 phrase seed) here ∙ ap (λ (n : ℕ). password Algorithm.md5 phrase seed (low + (k - 1 - n))) (sym same))
+          (λ t. let other = eqb-false j (i - 1) t in getD-set-other ps (i - 1) j x 0 other ∙ known .1 j (above j a other) b),
     )
   where
     above : (j : ℕ) → i - 1 ≤ j → (j ≡ i - 1 → ⊥) → i ≤ j

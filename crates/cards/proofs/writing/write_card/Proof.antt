@@ -1,115 +1,117 @@
+-- `write_card` meets its promise: the checks in their order, one walk up the chain, then the lines.
 use borrow.Author.Needs.{needs}
+use borrow.Author.Tests.{not-true, not-false}
+use Prim.Native.Nat.{ℕ, _-_, _≤_}
+use mathlib.Core.Path.{_≡_, refl, sym, _∙_, ap, subst}
+use mathlib.Core.Bool.{true, _&&_}
+use mathlib.Core.List.{List}
+use native.Mathlib.Omega.{arith}
+use lib.Dec.{leb}
+use lib.ListN.{length}
+use Rattle.refusal.specs.declared.Checked.{Checked}
+use Rattle.refusal.specs.declared.Reading.{Reading}
+use Rattle.refusal.specs.declared.Refusal.{Refusal}
+use Rattle.text.specs.Front.{Writes}
+use Rattle.password.specs.Checks.{phraseChecked}
+use Rattle.password.specs.Password.{Algorithm, password}
+use Rattle.challenge.specs.declared.reading.Challenge.{Challenge}
+use Rattle.challenge.specs.Challenges.{challengeOf, seedOf}
+use Rattle.cards.specs.Cards.{cardText, cardOf}
+use Rattle.cards.specs.Inside.{Falling}
+use Rattle.cards.proofs.Ways.{lines-good, refused-phrase, refused-challenge, refused-lines, lowest, walked, written}
 use Rattle.cards.proofs.writing.write_card.Statement.{statement}
 use Rattle.cards.proofs.writing.write_card.Tie as tie
-use Rattle.cards.proofs.writing.write_card.Reads as reads
-use Rattle.cards.proofs.writing.write_card.Lts as lts
-use Rattle.cards.proofs.walk.walk.Reads as walk-reads
-use Rattle.cards.proofs.writing.write_lines.Reads as write-lines-reads
-use Rattle.challenge.proofs.reading.read.Reads as read-reads
-use Rattle.challenge.proofs.reading.seed_of.Reads as seed-of-reads
-use Rattle.password.proofs.checks.check_phrase.Reads as check-phrase-reads
-use Rattle.password.proofs.generator.generate.Reads as generate-reads
 
--- src/writing.rt:40:36
-check-phrase-requires : tie.Need-check-phrase-requires
-check-phrase-requires c κs = search needs
+same-password : {p q : ℕ} → Reading.Password p ≡ Reading.Password q → p ≡ q
+same-password e = cc
 
--- src/writing.rt:40:29
-enum-known-why : tie.Need-enum-known-why
-enum-known-why c = search needs
+never : {A : Type 0} (why : Refusal) (p : ℕ) → Reading.Refused why ≡ Reading.Password p → A
+never why p e = let z : _≡_ {A = ℕ} 0 1 = cc in absurd (omega arith)
 
--- src/writing.rt:41:9
-returns : tie.Need-returns
-returns c = ?
+-- ---- the parameters, as the places see them, and what the checks found
 
-enum-told : tie.Need-enum-told
-enum-told c = search needs
+abbrev start₁ : tie.After-enum-told → tie.Start
+start₁ c = c .before .before .before .before .before .before
 
--- src/writing.rt:43:23
-read-requires : tie.Need-read-requires
-read-requires c κs = search needs
+good-phrase : (c : tie.After-enum-told) → phraseChecked (start₁ c .args .phrase .now) ≡ Checked.Good
+good-phrase c = sym (c .before .before .check-phrase .ensures) ∙ c .enum-told .given .1
 
--- src/writing.rt:45:13
-enum-known-count : tie.Need-enum-known-count
-enum-known-count c = search needs
+abbrev told₁ : tie.After-known-told2 → tie.After-enum-told
+told₁ c = c .before .before .before .before
 
--- src/writing.rt:50:28
-enum-known-why-2 : tie.Need-enum-known-why-2
-enum-known-why-2 c = search needs
+abbrev start₂ : tie.After-known-told2 → tie.Start
+start₂ c = start₁ (told₁ c)
 
--- src/writing.rt:50:36
-returns-2 : tie.Need-returns-2
-returns-2 c = ?
+abbrev count : tie.After-known-told2 → ℕ
+count c = c .before .count .given .0 .0
 
--- src/writing.rt:53:9
-returns-3 : tie.Need-returns-3
-returns-3 c = ?
+challenge-read : (c : tie.After-known-told2) → challengeOf (start₂ c .args .challenge .now) ≡ Challenge.Read (count c) (c .before .count .given .0 .1 .0) (c .before .count .given .0 .1 .1 .0) (c .before .count .given .0 .1 .1 .1 .0)
+challenge-read c = sym (c .before .before .before .read .ensures) ∙ c .before .count .given .1
 
--- src/writing.rt:55:24
-sub-low : tie.Need-sub-low
-sub-low c = ?
+lines-pass : (c : tie.Else1) → (leb 1 (start₂ (c .before) .args .lines) && leb (start₂ (c .before) .args .lines) 99 && leb (start₂ (c .before) .args .lines) (count (c .before))) ≡ true
+lines-pass c = not-false _ (c .if1 .left)
 
--- src/writing.rt:55:15
-sub-low-2 : tie.Need-sub-low-2
-sub-low-2 c = ?
+bounds : (c : tie.Else1) → (1 ≤ start₂ (c .before) .args .lines) × (start₂ (c .before) .args .lines ≤ 99) × (start₂ (c .before) .args .lines ≤ count (c .before))
+bounds c = lines-good _ _ (lines-pass c)
 
--- src/writing.rt:56:28
-seed-of-requires : tie.Need-seed-of-requires
-seed-of-requires c κs = search needs
+-- ---- the walk
 
--- src/writing.rt:56:11
-generate-requires : tie.Need-generate-requires
-generate-requires c κs = search needs
+abbrev else₁ : tie.After-known-told4 → tie.Else1
+else₁ c = c .before .before .before .before .before
 
--- src/writing.rt:57:27
-enum-known-p : tie.Need-enum-known-p
-enum-known-p c = search needs
+abbrev lowest-password : tie.Else1 → ℕ
+lowest-password c =
+    let a = start₂ (c .before) .args in
+    password Algorithm.md5 (a .phrase .now) (seedOf (a .challenge .now)) (count (c .before) - (a .lines - 1))
 
--- src/writing.rt:58:22
-walk-requires : tie.Need-walk-requires
-walk-requires c κs = ?
+generated-lowest : (c : tie.After-generate) → c .generate .result ≡ Reading.Password (lowest-password (c .before .before))
+generated-lowest c =
+    let else1 = c .before .before in
+    let a = start₂ (else1 .before) .args in
+    c .generate .ensures
+    ∙ lowest (a .phrase .now) (a .challenge .now) (a .lines) (length (a .buf .now)) (good-phrase (told₁ (else1 .before))) _ _ _ _ (challenge-read (else1 .before)) (lines-pass else1) _ (c .before .seed-of .ensures .0)
 
--- src/writing.rt:59:13
-write-lines-requires : tie.Need-write-lines-requires
-write-lines-requires c κs = ?
+falling : (c : tie.After-walk) → Falling (lowest-password (else₁ (c .before))) (start₂ (else₁ (c .before) .before) .args .lines) (c .walk .result)
+falling c =
+    let told = c .before in
+    rw (same-password (sym (told .before .p .given .1) ∙ generated-lowest (told .before .before .before))) at (c .walk .ensures)
 
--- src/writing.rt:61:26
-enum-known-why-3 : tie.Need-enum-known-why-3
-enum-known-why-3 c = search needs
-
--- src/writing.rt:36:1
-same-length : tie.Need-same-length
-same-length c = search needs
-
--- src/writing.rt:36:1
 returns-4 : tie.Need-returns-4
-returns-4 c = ?
+returns-4 c =
+    let call = c .before .before in
+    let walk = call .before .before .before in
+    let else1 = else₁ (walk .before) in
+    let told = else1 .before in
+    let a = start₂ told .args in
+    let text = walked (a .phrase .now) (a .challenge .now) (a .lines) (length (a .buf .now)) (good-phrase (told₁ told)) _ _ _ _ (challenge-read told) (lines-pass else1) (walk .walk .result) (falling walk) in
+    let wrote : Writes (cardOf (a .phrase .now) (a .challenge .now) (a .lines)) (a .buf .now) (call .write-lines .last .1 .1 .1 .0) (call .write-lines .result) =
+    subst (λ (t : List ℕ). Writes t (a .buf .now) (call .write-lines .last .1 .1 .1 .0) (call .write-lines .result)) text (call .write-lines .ensures) in
+    (wrote .0 ∙ sym (written (a .phrase .now) (a .challenge .now) (a .lines) (length (a .buf .now)) (good-phrase (told₁ told)) _ _ _ _ (challenge-read told) (lines-pass else1)), wrote .1)
 
--- src/writing.rt:36:1
 returns-5 : tie.Need-returns-5
-returns-5 c = ?
+returns-5 c = never _ _ (sym (c .before .why3 .given .1) ∙ generated-lowest (c .before .before .before))
 
 pub write-card-spec : {M : Type 1} → statement M
 write-card-spec =
     tie.close
     (tie.spec
-    check-phrase-requires
-    enum-known-why
-    returns
-    enum-told
-    read-requires
-    enum-known-count
-    enum-known-why-2
-    returns-2
-    returns-3
-    sub-low
-    sub-low-2
-    seed-of-requires
-    generate-requires
-    enum-known-p
-    walk-requires
-    write-lines-requires
-    enum-known-why-3
-    same-length
+    (λ c κs. search needs)
+    (λ c. search needs)
+    (λ c. (refused-phrase _ _ _ _ _ (sym (c .before .before .before .check-phrase .ensures) ∙ c .before .why .given .1), refl))
+    (λ c. search needs)
+    (λ c κs. search needs)
+    (λ c. search needs)
+    (λ c. search needs)
+    (λ c. (refused-challenge _ _ _ _ (good-phrase (c .before .before .before .before)) _ (sym (c .before .before .before .read .ensures) ∙ c .before .why2 .given .1), refl))
+    (λ c. (refused-lines _ _ _ _ (good-phrase (told₁ (c .before))) _ _ _ _ (challenge-read (c .before)) (not-true _ (c .if1 .taken)), refl))
+    (λ c. bounds c .0)
+    (λ c. omega (arith, bounds c))
+    (λ c κs. search needs)
+    (λ c κs. search needs)
+    (λ c. search needs)
+    (λ c κs. bounds (else₁ c) .1)
+    (λ c κs. (bounds (else₁ (c .before .before .before)) .1, bounds (else₁ (c .before .before .before)) .2))
+    (λ c. search needs)
+    (λ c. search needs)
     returns-4
     returns-5)
