@@ -2,3 +2,4 @@
 pub mod Wrote
 pub mod Climb
 pub mod Ways
+pub mod Printed

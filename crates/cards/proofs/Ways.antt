@@ -6,12 +6,10 @@ use mathlib.Core.List.{List}
 use native.Mathlib.Omega.{arith}
 use lib.Dec.{leb}
 use lib.ListN.{length}
-use borrow.Author.Tests.{leb-true}
 use Rattle.refusal.specs.declared.Refusal.{Refusal}
 use Rattle.refusal.specs.declared.Checked.{Checked}
 use Rattle.refusal.specs.declared.Reading.{Reading}
 use Rattle.refusal.specs.declared.Written.{Written}
-use Rattle.text.specs.Tests.{both}
 use Rattle.text.specs.Front.{writtenOf, leaves, Writes}
 use Rattle.password.specs.Checks.{phraseChecked, seedChecked}
 use Rattle.password.specs.Password.{Algorithm, password, generated}
@@ -21,14 +19,7 @@ use Rattle.challenge.specs.Challenges.{challengeOf, seedOf}
 use Rattle.challenge.specs.Laws.{read-seed-good, read-count-low}
 use Rattle.cards.specs.Cards.{cardText, countOf, cardChecked, cardOf, cardWritten}
 use Rattle.cards.specs.Inside.{at, Falling}
-use Rattle.cards.specs.Laws.{card-same}
-
--- the lines that pass the check
-pub lines-good : (k n : ℕ) → (leb 1 k && leb k 99 && leb k n) ≡ true → (1 ≤ k) × (k ≤ 99) × (k ≤ n)
-lines-good k n e =
-    let outer = both (leb 1 k && leb k 99) (leb k n) e in
-    let inner = both (leb 1 k) (leb k 99) (outer .0) in
-    (leb-true 1 k (inner .0), leb-true k 99 (inner .1), leb-true k n (outer .1))
+use Rattle.cards.specs.Laws.{lines-good, card-same}
 
 module _ (phrase challenge : List ℕ) (k room : ℕ) where
   pub refused-phrase : (why : Refusal) → phraseChecked phrase ≡ Checked.Refused why → Written.Refused why ≡ cardWritten phrase challenge k room

@@ -7,10 +7,25 @@ use native.Mathlib.Nat.{suc-add}
 use native.Mathlib.Numerals.{add-one}
 use lib.ListN.{length, length-append}
 use Rattle.reply.specs.Writing.{hexOf, wordsOf}
-use Rattle.reply.specs.Laws.{hex-length, words-length}
+use Rattle.reply.specs.Laws.{hex-length, words-length, hex-written-read, words-written-read}
 use Rattle.challenge.specs.Counts.{widthOf, decimalOf}
-use Rattle.challenge.specs.Laws.{length-decimal, width-few}
-use Rattle.cards.specs.Cards.{lineOf, cardText}
+use Rattle.challenge.specs.Laws.{length-decimal, width-few, must-good, read-seed-good, read-count-low}
+use mathlib.Core.Bool.{Bool, true, false, _&&_}
+use lib.Dec.{leb}
+use borrow.Author.Tests.{leb-true}
+use Rattle.refusal.specs.declared.Refusal.{Refusal}
+use Rattle.refusal.specs.declared.Checked.{Checked}
+use Rattle.refusal.specs.declared.Reading.{Reading}
+use Rattle.refusal.specs.Checks.{unless}
+use Rattle.text.specs.Tests.{both}
+use Rattle.password.specs.Checks.{phraseChecked}
+use Rattle.password.specs.Password.{Algorithm, password, generated}
+use Rattle.password.specs.Laws.{generated-good}
+use Rattle.password.specs.Bounds.{password-bound}
+use Rattle.reply.specs.Reading.{readingOf}
+use Rattle.challenge.specs.declared.reading.Challenge.{Challenge}
+use Rattle.challenge.specs.Challenges.{must, challengeOf, seedOf}
+use Rattle.cards.specs.Cards.{lineOf, cardText, challengeChecked, countOf, linesChecked, cardChecked, cardOf}
 
 pub length-line : (count p : ℕ) → length (lineOf count p) ≡ widthOf count + length (wordsOf p) + 19
 unfolding lineOf
@@ -63,3 +78,71 @@ card-same f g zero n h e = refl
 card-same f g (suc k) n h e =
     ap₂ (λ (p : ℕ) (l : List ℕ). lineOf n p ++ l) (e n (omega arith) (omega arith))
     (card-same f g k (n - 1) (omega arith) (λ count a b. e count (omega arith) (omega arith)))
+
+-- ---- what a card that is not refused says
+
+-- the lines that pass the check
+pub lines-good : (k n : ℕ) → (leb 1 k && leb k 99 && leb k n) ≡ true → (1 ≤ k) × (k ≤ 99) × (k ≤ n)
+lines-good k n e =
+    let outer = both (leb 1 k && leb k 99) (leb k n) e in
+    let inner = both (leb 1 k) (leb k 99) (outer .0) in
+    (leb-true 1 k (inner .0), leb-true k 99 (inner .1), leb-true k n (outer .1))
+
+-- two checks that find nothing wrong
+both-good : (a b : Checked) → unless Checked.Refused a b ≡ Checked.Good → (a ≡ Checked.Good) × (b ≡ Checked.Good)
+both-good Checked.Good b e = (refl, e)
+both-good (Checked.Refused why) b e = let z : _≡_ {A = ℕ} 0 1 = cc in absurd (omega arith)
+
+-- a challenge with nothing wrong is read
+is-read : (c : Challenge) → challengeChecked c ≡ Checked.Good → (n s l u : ℕ) × (c ≡ Challenge.Read n s l u)
+is-read (Challenge.Read n s l u) e = (n, s, l, u, refl)
+is-read (Challenge.Refused why) e = let z : _≡_ {A = ℕ} 0 1 = cc in absurd (omega arith)
+
+module _ (phrase challenge : List ℕ) (k : ℕ) (e : cardChecked phrase challenge k ≡ Checked.Good) where
+  checks-good : (phraseChecked phrase ≡ Checked.Good) × (challengeChecked (challengeOf challenge) ≡ Checked.Good) × (linesChecked k (countOf (challengeOf challenge)) ≡ Checked.Good)
+  unfolding cardChecked
+  checks-good =
+      let a = both-good (phraseChecked phrase) _ e in
+      let b = both-good (challengeChecked (challengeOf challenge)) (linesChecked k (countOf (challengeOf challenge))) (a .1) in
+      (a .0, b .0, b .1)
+
+  pub card-bounds : (1 ≤ k) × (k ≤ 99) × (k ≤ countOf (challengeOf challenge))
+  card-bounds =
+      let n = countOf (challengeOf challenge) in
+      lines-good k n (must-good (leb 1 k && leb k 99 && leb k n) Refusal.LinesOutside (checks-good .2))
+
+  -- "The largest card is 99 lines of 52 bytes"
+  pub largest-card : length (cardOf phrase challenge k) ≤ 5148
+  unfolding cardOf
+  largest-card =
+      omega (arith, card-length (password Algorithm.md5 phrase (seedOf challenge)) (password-bound Algorithm.md5 phrase (seedOf challenge)) k (countOf (challengeOf challenge)), card-bounds)
+
+  -- the generator's answer at a count of the card
+  generated-there : (i : ℕ) → generated Algorithm.md5 phrase (seedOf challenge) (countOf (challengeOf challenge) - i) ≡ Reading.Password (password Algorithm.md5 phrase (seedOf challenge) (countOf (challengeOf challenge) - i))
+  generated-there i =
+      let read = is-read (challengeOf challenge) (checks-good .1) in
+      let low = read-count-low (read .0) (read .1) (read .2) (read .3) challenge (read .4) in
+      let count : countOf (challengeOf challenge) ≡ read .0 = ap countOf (read .4) in
+      generated-good Algorithm.md5 phrase (seedOf challenge) _ (checks-good .0) (read-seed-good (read .0) (read .1) (read .2) (read .3) challenge (read .4)) (omega arith)
+
+  -- Each line's count with its words or its hex, read as a reply, is the password that the generator gives at that
+  -- count: the card is the i lines before, the line for the count n - i, and the lines after.
+  pub card-lines : (i : ℕ) → i < k →
+      let n = countOf (challengeOf challenge) in
+      let passwordAt = password Algorithm.md5 phrase (seedOf challenge) in
+      let p = passwordAt (n - i) in
+      (cardOf phrase challenge k
+      ≡ cardText passwordAt n i
+      ++ (decimalOf (n - i) ++ 32 ∷ [] ++ hexOf p ++ 32 ∷ [] ++ wordsOf p ++ 10 ∷ [])
+      ++ cardText passwordAt (n - i - 1) (k - i - 1))
+      × (readingOf (hexOf p) ≡ generated Algorithm.md5 phrase (seedOf challenge) (n - i))
+      × (readingOf (wordsOf p) ≡ generated Algorithm.md5 phrase (seedOf challenge) (n - i))
+  unfolding cardOf lineOf
+  card-lines i h =
+      let n = countOf (challengeOf challenge) in
+      let passwordAt = password Algorithm.md5 phrase (seedOf challenge) in
+      let small = password-bound Algorithm.md5 phrase (seedOf challenge) (n - i) in (
+        card-line passwordAt i k n h,
+        hex-written-read (passwordAt (n - i)) small ∙ sym (generated-there i),
+        words-written-read (passwordAt (n - i)) small ∙ sym (generated-there i),
+      )

@@ -2,3 +2,4 @@
 pub mod Cards
 pub mod Inside
 pub mod Laws
+pub mod Answers

@@ -6,3 +6,5 @@ mod lines;
 mod walk;
 // The card of a pass-phrase and a challenge.
 pub mod writing;
+// What the program `card` prints for its input.
+pub mod answering;

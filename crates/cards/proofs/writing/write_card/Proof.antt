@@ -18,7 +18,8 @@ use Rattle.challenge.specs.declared.reading.Challenge.{Challenge}
 use Rattle.challenge.specs.Challenges.{challengeOf, seedOf}
 use Rattle.cards.specs.Cards.{cardText, cardOf}
 use Rattle.cards.specs.Inside.{Falling}
-use Rattle.cards.proofs.Ways.{lines-good, refused-phrase, refused-challenge, refused-lines, lowest, walked, written}
+use Rattle.cards.specs.Laws.{lines-good}
+use Rattle.cards.proofs.Ways.{refused-phrase, refused-challenge, refused-lines, lowest, walked, written}
 use Rattle.cards.proofs.writing.write_card.Statement.{statement}
 use Rattle.cards.proofs.writing.write_card.Tie as tie
 
