@@ -1,3 +1,2 @@
 -- What the proofs of `challenge`'s functions share.
 pub mod Numbers
-pub mod Steps

@@ -6,7 +6,8 @@ use lib.Dec.{leb, ltb, eqb}
 use lib.ListN.{length, getD}
 use Rattle.text.specs.Kinds.{isDigit}
 use Rattle.text.specs.Tests.{every}
-use Rattle.text.specs.Digits.{digitsOf}
+use Rattle.text.specs.Digits.{digitsOf, numberOf}
+use Rattle.challenge.specs.declared.counts.Counted.{Counted}
 
 -- "without a leading zero (a lone `0` is good)": more than one byte, the first a `0`
 abbrev pub leadingZero : List ℕ → Bool
@@ -23,3 +24,7 @@ widthOf n = cond (ltb n 10) 1 (cond (ltb n 100) 2 (cond (ltb n 1000) 3 4))
 -- a count up to 9,999 as it is written
 abbrev pub decimalOf : ℕ → List ℕ
 decimalOf n = digitsOf 10 (widthOf n) n
+
+-- the count that a token is, if it is one
+abbrev pub countedOf : List ℕ → Counted
+countedOf t = cond (isCount t) (Counted.Is (numberOf 10 t)) Counted.Unread

@@ -17,8 +17,9 @@ use Rattle.text.specs.Kinds.{inToken, isBlank, isDigit}
 use Rattle.text.specs.Digits.{digitValue, numberOf}
 use Rattle.text.specs.DigitLaws.{value-digit, number-lt, length-digits}
 use Rattle.password.specs.Checks.{seedChecked}
+use Rattle.challenge.specs.declared.counts.Counted.{Counted}
 use Rattle.challenge.specs.declared.reading.Challenge.{Challenge}
-use Rattle.challenge.specs.Counts.{leadingZero, isCount, widthOf, decimalOf}
+use Rattle.challenge.specs.Counts.{leadingZero, isCount, countedOf, widthOf, decimalOf}
 use Rattle.text.specs.Scan.{runOf}
 use Rattle.text.specs.ScanLaws.{run-within}
 use Rattle.text.specs.Tests.{every, both, either, cases}
@@ -67,6 +68,23 @@ run-whole test (b ∷ s) = one-more (test b) (every test s) (runOf test s) (leng
     one-more true p n m e = eqb·suc-suc n m ∙ e
     one-more false p n m e = eqb·zero-suc m
 
+-- ---- counts
+
+-- a count that was read is the token's
+pub is-read : (t : List ℕ) (n : ℕ) → countedOf t ≡ Counted.Is n → (isCount t ≡ true) × (numberOf 10 t ≡ n)
+is-read t n = by (isCount t) refl
+  where
+    by : (b : Bool) → isCount t ≡ b → cond b (Counted.Is (numberOf 10 t)) Counted.Unread ≡ Counted.Is n → (isCount t ≡ true) × (numberOf 10 t ≡ n)
+    by true f e = (f, cc)
+    by false f e = let z : _≡_ {A = ℕ} 0 1 = cc in absurd (omega arith)
+
+pub is-unread : (t : List ℕ) → countedOf t ≡ Counted.Unread → isCount t ≡ false
+is-unread t = by (isCount t) refl
+  where
+    by : (b : Bool) → isCount t ≡ b → cond b (Counted.Is (numberOf 10 t)) Counted.Unread ≡ Counted.Unread → isCount t ≡ false
+    by true f e = let z : _≡_ {A = ℕ} 0 1 = cc in absurd (omega arith)
+    by false f e = f
+
 -- ---- what a challenge that is read says
 
 -- a text with the opening has its four bytes
@@ -99,7 +117,7 @@ count-low t e =
     let most : 10 ^ length t ≤ 10 ^ 4 = pow-le-pow-right (omega arith) {i = length t} {j = 4} (digits .0) in
     omega (arith, number-lt 10 0 1 t (omega arith) (digit-values t (digits .1)))
 
-must-good : (t : Bool) (why : Refusal) → must t why ≡ Checked.Good → t ≡ true
+pub must-good : (t : Bool) (why : Refusal) → must t why ≡ Checked.Good → t ≡ true
 must-good true why e = refl
 must-good false why e = let z : _≡_ {A = ℕ} 0 1 = cc in absurd (omega arith)
 

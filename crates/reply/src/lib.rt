@@ -9,6 +9,7 @@ mod tokens;
 mod words;
 
 ghost use mathlib.Core.Path.{_≡_};
+ghost use Prim.Native.Nat.{_≤_};
 ghost use lib.ListN.{length};
 ghost use Rattle.reply.specs.Reading.{readingOf};
 ghost use Rattle.reply.specs.Writing.{hexOf, wordsOf};
@@ -39,9 +40,9 @@ pub fn write_hex(password: u64, buf: &mut [u8]) -> Written
     Written::Wrote(spell(buf, password, 16, 16))
 }
 
-// How many bytes the six words of a password take.
+// How many bytes the six words of a password take: 29 at most.
 pub fn words_length(password: u64) -> usize
-    ensures { λ r. ⌜ r ≡ length (wordsOf password) ⌝ }
+    ensures { λ r. ⌜ (r ≡ length (wordsOf password)) × (r ≤ 29) ⌝ }
 {
     words::length_of(words::words_of(password))
 }

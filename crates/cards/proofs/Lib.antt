@@ -1,0 +1,5 @@
+-- What the proofs of `cards`' functions share.
+pub mod Wrote
+pub mod Climb
+pub mod Ways
+pub mod Printed

@@ -1,0 +1,53 @@
+-- 01, The card.
+use Prim.Native.Nat.{ℕ, zero, suc, _-_}
+use mathlib.Core.Bool.{_&&_}
+use mathlib.Core.List.{List, [], _∷_, _++_}
+use lib.Dec.{leb}
+use Rattle.refusal.specs.declared.Refusal.{Refusal}
+use Rattle.refusal.specs.declared.Checked.{Checked}
+use Rattle.refusal.specs.declared.Written.{Written}
+use Rattle.refusal.specs.Checks.{unless}
+use Rattle.text.specs.Front.{writtenOf}
+use Rattle.password.specs.Checks.{phraseChecked}
+use Rattle.password.specs.Password.{Algorithm, password}
+use Rattle.reply.specs.Writing.{hexOf, wordsOf}
+use Rattle.challenge.specs.declared.reading.Challenge.{Challenge}
+use Rattle.challenge.specs.Counts.{decimalOf}
+use Rattle.challenge.specs.Challenges.{must, challengeOf, seedOf}
+
+-- "count, space, hex, space, words, newline"
+unfoldable pub lineOf : ℕ → ℕ → List ℕ
+lineOf count p = decimalOf count ++ 32 ∷ [] ++ hexOf p ++ 32 ∷ [] ++ wordsOf p ++ 10 ∷ []
+
+-- "A card has k lines for counts n, n-1, down to n-k+1", with the password at each count
+unfoldable pub cardText : (ℕ → ℕ) → ℕ → ℕ → List ℕ
+cardText passwordAt n zero = []
+cardText passwordAt n (suc k) = lineOf n (passwordAt n) ++ cardText passwordAt (n - 1) k
+
+-- what is wrong with a challenge, and the count that it says
+abbrev pub challengeChecked : Challenge → Checked
+challengeChecked (Challenge.Read count start len used) = Checked.Good
+challengeChecked (Challenge.Refused why) = Checked.Refused why
+
+abbrev pub countOf : Challenge → ℕ
+countOf (Challenge.Read count start len used) = count
+countOf (Challenge.Refused why) = 0
+
+-- 70: "card lines not 1 to 99 or more than the count"
+abbrev pub linesChecked : ℕ → ℕ → Checked
+linesChecked k n = must (leb 1 k && leb k 99 && leb k n) Refusal.LinesOutside
+
+-- "Order: 10, 11, 20 to 25, 70", and 40 after these
+unfoldable pub cardChecked : List ℕ → List ℕ → ℕ → Checked
+cardChecked phrase challenge k =
+    unless Checked.Refused (phraseChecked phrase)
+    (unless Checked.Refused (challengeChecked (challengeOf challenge))
+    (linesChecked k (countOf (challengeOf challenge))))
+
+-- the card of a pass-phrase and a challenge
+unfoldable pub cardOf : List ℕ → List ℕ → ℕ → List ℕ
+cardOf phrase challenge k = cardText (password Algorithm.md5 phrase (seedOf challenge)) (countOf (challengeOf challenge)) k
+
+unfoldable pub cardWritten : List ℕ → List ℕ → ℕ → ℕ → Written
+cardWritten phrase challenge k room =
+    unless Written.Refused (cardChecked phrase challenge k) (writtenOf room (cardOf phrase challenge k))

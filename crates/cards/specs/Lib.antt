@@ -1,0 +1,5 @@
+-- The definitions that the promises of `cards` cite, and its laws.
+pub mod Cards
+pub mod Inside
+pub mod Laws
+pub mod Answers

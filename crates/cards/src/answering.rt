@@ -1,0 +1,97 @@
+// What the program `card` prints for its input.
+ghost use mathlib.Core.Path.{_≡_};
+ghost use mathlib.Core.List.{_++_};
+ghost use Prim.Native.Nat.{_≤_};
+ghost use lib.ListN.{length};
+ghost use Rattle.bytes.specs.Bytes.{indexOf};
+ghost use Rattle.text.specs.Front.{Put};
+ghost use Rattle.cards.specs.Answers.{firstLine, keptLine, pastLine, linesAsked, refusedText, answerOf};
+use crate::writing::write_card;
+use challenge::counts::Counted;
+use challenge::counts::put_count;
+use challenge::counts::read_count;
+use refusal::Refusal;
+use refusal::Written;
+use refusal::listing_of;
+use text::put::copy;
+
+// Where the first line of a text ends: at its newline, or with the text.
+fn line_end(s: &[u8]) -> usize
+    ensures { λ r. ⌜ (r ≡ indexOf 10 (now (s .entry))) × (r ≤ length (now (s .entry))) ⌝ }
+{
+    bytes::scan::find(s, 0, s.len(), b'\n')
+}
+
+// The first line of a text without its newline.
+fn first_line(s: &[u8]) -> &[u8]
+    ensures { λ r. ⌜ now r ≡ firstLine (now (s .entry)) ⌝ }
+{
+    let n = line_end(s);
+    &s[..n]
+}
+
+// The first line of a text with its newline.
+fn kept_line(s: &[u8]) -> &[u8]
+    ensures { λ r. ⌜ now r ≡ keptLine (now (s .entry)) ⌝ }
+{
+    let n = line_end(s);
+    if n < s.len() {
+        let end = n + 1;
+        return &s[..end];
+    }
+    s
+}
+
+// What follows the first line of a text.
+fn past_line(s: &[u8]) -> &[u8]
+    ensures { λ r. ⌜ now r ≡ pastLine (now (s .entry)) ⌝ }
+{
+    let n = line_end(s);
+    if n < s.len() {
+        let start = n + 1;
+        return &s[start..];
+    }
+    &s[n..]
+}
+
+// The lines that the third line asks for; 0 for a line that is no such number.
+fn lines_asked(t: &[u8]) -> u32
+    ensures { λ r. ⌜ r ≡ linesAsked (now (t .entry)) ⌝ }
+{
+    if 2 < t.len() {
+        return 0;
+    }
+    let Counted::Is(k) = read_count(t) else {
+        return 0;
+    };
+    k
+}
+
+// A refusal as it is printed.
+fn put_refused(buf: &mut [u8], why: Refusal) -> usize
+    requires { ⌜ 13 ≤ length (now buf) ⌝ }
+    ensures { λ r. ⌜ Put (refusedText why) (now (buf .entry)) (now (buf .exit)) r ⌝ }
+    ensures { λ r. ⌜ r ≤ 13 ⌝ }
+{
+    let listing = listing_of(why);
+    let number = listing.0;
+    let a = copy(buf, b"refused ");
+    let b = a + put_count(&mut buf[a..], number);
+    b + copy(&mut buf[b..], b"\n")
+}
+
+// The answer to an input at the front of the buffer, which has room for the largest card: 99 lines of 52 bytes.
+pub fn answer(input: &[u8], buf: &mut [u8; 5148]) -> usize
+    ensures answered { λ r. ⌜ Put (answerOf (now (input .entry))) (now (buf .entry)) (now (buf .exit)) r ⌝ }
+    ensures within { λ r. ⌜ r ≤ 5148 ⌝ }
+{
+    if 256 < input.len() {
+        return put_refused(buf, Refusal::InputLong);
+    }
+    let rest = past_line(input);
+    let lines = lines_asked(first_line(past_line(rest)));
+    match write_card(first_line(input), kept_line(rest), lines, buf) {
+        Written::Wrote(n) => n,
+        Written::Refused(why) => put_refused(buf, why),
+    }
+}

@@ -1,0 +1,79 @@
+// One line of a card, and a card's lines one after the other.
+ghost use mathlib.Core.Path.{_≡_};
+ghost use mathlib.Core.List.{[], _∷_, _++_};
+ghost use Prim.Native.Nat.{_+_, _≤_};
+ghost use lib.ListN.{length};
+ghost use Rattle.text.specs.Front.{Put};
+ghost use Rattle.reply.specs.Writing.{hexOf, wordsOf};
+ghost use Rattle.challenge.specs.Counts.{widthOf};
+ghost use Rattle.cards.specs.Cards.{lineOf, cardText};
+ghost use Rattle.cards.specs.Inside.{at as passwordAt};
+use challenge::counts::width;
+use challenge::writing::put_count_space;
+use refusal::Written;
+use reply::words_length;
+use reply::write_hex;
+use reply::write_words;
+use text::put::copy;
+
+// A password in hex and a space.
+fn put_hex_space(buf: &mut [u8], p: u64) -> usize
+    requires { ⌜ 17 ≤ length (now buf) ⌝ }
+    ensures { λ r. ⌜ Put (hexOf p ++ 32 ∷ []) (now (buf .entry)) (now (buf .exit)) r ⌝ }
+{
+    let Written::Wrote(n) = write_hex(p, buf) else {
+        return 0;
+    };
+    n + copy(&mut buf[n..], b" ")
+}
+
+// A password in words and a newline.
+fn put_words_newline(buf: &mut [u8], p: u64) -> usize
+    requires { ⌜ length (wordsOf p) + 1 ≤ length (now buf) ⌝ }
+    ensures { λ r. ⌜ Put (wordsOf p ++ 10 ∷ []) (now (buf .entry)) (now (buf .exit)) r ⌝ }
+{
+    let Written::Wrote(n) = write_words(p, buf) else {
+        return 0;
+    };
+    n + copy(&mut buf[n..], b"\n")
+}
+
+// The line of a count and its password.
+fn put_line(buf: &mut [u8], count: u32, p: u64) -> usize
+    requires { ⌜ widthOf count + length (wordsOf p) + 19 ≤ length (now buf) ⌝ }
+    ensures { λ r. ⌜ Put (lineOf count p) (now (buf .entry)) (now (buf .exit)) r ⌝ }
+{
+    let a = put_count_space(buf, count);
+    let b = a + put_hex_space(&mut buf[a..], p);
+    b + put_words_newline(&mut buf[b..], p)
+}
+
+// How many bytes k lines take, the first for the count n.
+pub fn lines_length(ps: &[u64; 99], n: u32, k: u32) -> usize
+    requires { ⌜ (k ≤ 99) × (k ≤ n) ⌝ }
+    ensures { λ r. ⌜ r ≡ length (cardText (passwordAt (now (ps .entry)) n) n k) ⌝ }
+{
+    let mut total = 0;
+    let mut i = 0;
+    while i < k {
+        let p = ps[i as usize];
+        total += width(n - i) + words_length(p) + 19;
+        i += 1;
+    }
+    total
+}
+
+// k lines at the front of the buffer, the first for the count n. Each is written into what remains.
+pub fn put_lines(buf: &mut [u8], ps: &[u64; 99], n: u32, k: u32) -> usize
+    requires { ⌜ (k ≤ 99) × (k ≤ n) × (length (cardText (passwordAt (now ps) n) n k) ≤ length (now buf)) ⌝ }
+    ensures { λ r. ⌜ Put (cardText (passwordAt (now (ps .entry)) n) n k) (now (buf .entry)) (now (buf .exit)) r ⌝ }
+{
+    let mut at = 0;
+    let mut i = 0;
+    while i < k {
+        let p = ps[i as usize];
+        at += put_line(&mut buf[at..], n - i, p);
+        i += 1;
+    }
+    at
+}
