@@ -3,6 +3,8 @@
 
 // An answer as C sees it: a value and a refusal's number.
 mod answers;
+// The card.
+pub mod card;
 // Challenges.
 pub mod challenges;
 // MD5 and the generator.
