@@ -94,5 +94,6 @@ int main(void)
     make_fields();
     check_passwords();
     check_replies();
+    check_challenges();
     return 0;
 }

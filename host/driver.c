@@ -101,12 +101,40 @@ static void answer_words(const word *given)
     print_written(buf, lift_write_words(given[0].number, buf, given[1].number));
 }
 
+static void answer_chal(const word *given)
+{
+    lift_challenge c = lift_read_challenge(given[0].bytes, given[0].len);
+    bool clean = c.refusal == 0 || (c.count == 0 && c.seed_at == 0 && c.seed_len == 0 && c.used == 0);
+    if (c.refusal == 0)
+        printf("ok %" PRIu32 " %zu %zu %zu", c.count, c.seed_at, c.seed_len, c.used);
+    else
+        printf("no %" PRIu32, c.refusal);
+    puts(clean ? "" : " dirty");
+}
+
+static void answer_wchal(const word *given)
+{
+    uint8_t *buf = lent();
+    print_written(buf, lift_write_challenge(given[0].bytes, given[0].len, (uint32_t)given[1].number,
+                                            buf, given[2].number));
+}
+
+static void answer_card(const word *given)
+{
+    uint8_t *buf = lent();
+    print_written(buf, lift_write_card(given[0].bytes, given[0].len, given[1].bytes, given[1].len,
+                                       (uint32_t)given[2].number, buf, given[3].number));
+}
+
 static const call calls[] = {
     {"md5", "t", answer_md5},
     {"gen", "ttn", answer_gen},
     {"read", "t", answer_read},
     {"hex", "pr", answer_hex},
     {"words", "pr", answer_words},
+    {"chal", "t", answer_chal},
+    {"wchal", "tnr", answer_wchal},
+    {"card", "ttnr", answer_card},
 };
 
 static int digit(char c)

@@ -11,7 +11,7 @@ WARNINGS = ("-std=c11 -Wall -Wextra -Werror -pedantic -Wshadow -Wconversion -Wca
 SANITIZERS = ["-g", "-fsanitize=address,undefined", "-fno-sanitize-recover=all"]
 
 # the calls that the driver knows: those of lift.h so far
-IN_C = {"md5", "gen", "read", "hex", "words"}
+IN_C = {"md5", "gen", "read", "hex", "words", "chal", "wchal", "card"}
 
 
 class Failed(Exception):

@@ -11,7 +11,7 @@ import time
 sys.dont_write_bytecode = True
 
 import harness  # noqa: E402
-from sections import paper, passwords, replies, selftest  # noqa: E402
+from sections import cards, challenges, paper, passwords, replies, selftest  # noqa: E402
 
 SECTIONS = [
     ("comparison can fail", selftest.comparison_can_fail),
@@ -25,6 +25,12 @@ SECTIONS = [
     ("every word at each place", replies.every_word),
     ("replies at random and damaged", replies.replies_at_random),
     ("words and hex at every room", replies.writers_at_every_room),
+    ("challenges at random and damaged", challenges.challenges_at_random),
+    ("challenge writer at every room", challenges.writer_at_every_room),
+    ("challenges written and read", challenges.written_reads_back),
+    ("cards of every length", cards.cards_of_every_length),
+    ("cards at random", cards.cards_at_random),
+    ("program card", cards.program),
 ]
 
 

@@ -44,6 +44,14 @@ typedef struct {
     uint32_t refusal;
 } lift_written;
 
+/* What a challenge says: the count, the seed as the seed_len bytes at
+ * text + seed_at, and how many bytes were used, the one after the seed
+ * included; or a refusal. */
+typedef struct {
+    size_t seed_at, seed_len, used;
+    uint32_t count, refusal;
+} lift_challenge;
+
 /* MD5 (RFC 1321) of text[0 .. text_len], 0 to 4,096 bytes: the 16 bytes of
  * the digest are written to digest[0 .. 16].
  *   12  text_len is over 4,096
@@ -80,6 +88,37 @@ lift_written lift_write_hex(uint64_t password, uint8_t *buf, size_t buf_len);
  * bytes, to the front of buf.
  *   40  buf_len is under the length of this very text */
 lift_written lift_write_words(uint64_t password, uint8_t *buf, size_t buf_len);
+
+/* Reads a challenge from left to right, as `otp-md5 487 dog2` and a newline.
+ * The text may be of any length; what stands after the byte that ends the
+ * seed isn't read. A token ends before a space, tab, newline or the end.
+ *   20  it does not start with `otp-`
+ *   21  the rest of that token is not `md5`
+ *   22  no count of one to four digits without a leading zero
+ *   23  the seed is not 1 to 16 bytes long
+ *   24  a byte of the seed is no ASCII letter or digit
+ *   25  no space or newline straight after the seed */
+lift_challenge lift_read_challenge(const uint8_t *text, size_t text_len);
+
+/* Writes a challenge, the seed in lower case, a newline at its end, to the
+ * front of buf: 12 to 30 bytes.
+ *   23  seed_len is not 1 to 16
+ *   24  a byte of the seed is no ASCII letter or digit
+ *   13  count is over 9,999
+ *   40  buf_len is under the length of this very text */
+lift_written lift_write_challenge(const uint8_t *seed, size_t seed_len,
+                                  uint32_t count, uint8_t *buf, size_t buf_len);
+
+/* Writes a card to the front of buf: a line for each count from the
+ * challenge's down, each with count, hex, six words and a newline; at most
+ * 52 bytes a line.
+ *   10, 11    the pass-phrase, as for lift_password
+ *   20 to 25  the challenge, as for lift_read_challenge
+ *   70  lines is not 1 to 99, or is over the challenge's count
+ *   40  buf_len is under the length of the whole card */
+lift_written lift_write_card(const uint8_t *phrase, size_t phrase_len,
+                             const uint8_t *challenge, size_t challenge_len,
+                             uint32_t lines, uint8_t *buf, size_t buf_len);
 
 /* Eight bytes as a password, the first most significant, and back. Neither
  * refuses; bytes[0 .. 8] has to be there. */
