@@ -39,9 +39,11 @@ int main(void)
     find_heimdal();
     check_hashing();
     check_words();
+    check_card();
     for (int round = 0; round < ROUNDS; round++) {
         time_hashing();
         time_words();
+        time_card();
     }
     return 0;
 }

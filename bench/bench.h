@@ -25,5 +25,7 @@ void check_hashing(void);
 void time_hashing(void);
 void check_words(void);
 void time_words(void);
+void check_card(void);
+void time_card(void);
 
 #endif

@@ -17,12 +17,13 @@ import harness  # noqa: E402
 import sizes  # noqa: E402
 
 SOURCES = [f"bench/{name}.c" for name in
-           ["bench", "hashing", "words", "heimdal", "plain_md5", "tuned_md5"]]
+           ["bench", "hashing", "words", "card", "heimdal", "plain_md5", "tuned_md5"]]
 WHOSE = {
     "proved": "proved code",
     "plain": "plain C, gcc -O3",
     "tuned": "plain C, G as a sum",
     "heimdal": "Heimdal's libotp",
+    "generator": "one generator call",
 }
 # what is compared, and what its steps are
 COMPARED = {
@@ -32,6 +33,7 @@ COMPARED = {
     "words-written": ("4,096 six words written", "a text"),
     "hex-read": ("4,096 hex texts read", "a text"),
     "hex-written": ("4,096 hex texts written", "a text"),
+    "card": ("99 lines at count 9,999", "each"),
 }
 # the ratio that is to be reached, and where there is one, the ratio aimed for
 WANTED = {
@@ -39,6 +41,7 @@ WANTED = {
     ("md5-4096", "plain"): "1.05",
     ("words-read", "heimdal"): "0.50, aim 0.25",
     ("words-written", "heimdal"): "1.00, aim 0.60",
+    ("card", "generator"): "1.10",
 }
 # what grows, and what its steps are
 GROWING = {

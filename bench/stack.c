@@ -22,7 +22,7 @@ void nothing(void)
 }
 
 static _Alignas(64) uint8_t stack[STACK];
-static uint8_t bytes[ROOM], buf[ROOM];
+static uint8_t bytes[ROOM], buf[ROOM], card[99 * 52];
 
 #define BYTES(literal) (const uint8_t *)(literal), sizeof(literal) - 1
 
@@ -86,6 +86,17 @@ static void call_write_hex(void)
     }
 }
 
+/* One line, and the most; a refusal of each kind of input. */
+static void call_write_card(void)
+{
+    lift_write_card(bytes, 10, BYTES("otp-md5 1 t\n"), 1, buf, ROOM);
+    lift_write_card(bytes, 63, BYTES("otp-md5 9999 ABCDEFGHijkl6789 "), 99, card, sizeof card);
+    lift_write_card(bytes, 63, BYTES("otp-md5 9999 ABCDEFGHijkl6789 "), 99, card, 99);
+    lift_write_card(bytes, 9, BYTES("otp-md5 1 t\n"), 1, buf, ROOM);
+    lift_write_card(bytes, 10, BYTES("otp-md4 1 t\n"), 1, buf, ROOM);
+    lift_write_card(bytes, 10, BYTES("otp-md5 1 t\n"), 2, buf, ROOM);
+}
+
 static void call_password_of(void)
 {
     lift_password_of(bytes);
@@ -140,6 +151,7 @@ int main(void)
     measure("lift_read_reply", call_read_reply);
     measure("lift_write_hex", call_write_hex);
     measure("lift_write_words", call_write_words);
+    measure("lift_write_card", call_write_card);
     measure("lift_password_of", call_password_of);
     measure("lift_bytes_of", call_bytes_of);
     return 0;
