@@ -12,6 +12,7 @@ use Rattle.text.specs.Kinds.{inToken, isBlank, lowerOf}
 use Rattle.text.specs.Scan.{runOf}
 use Rattle.text.specs.Digits.{numberOf}
 use Rattle.text.specs.Front.{writtenOf}
+use Rattle.text.specs.Tests.{same}
 use Rattle.text.specs.Quoted.{codes}
 use Rattle.password.specs.Checks.{seedChecked}
 use Rattle.challenge.specs.declared.reading.Challenge.{Challenge}
@@ -24,13 +25,6 @@ opening = codes "otp-"
 -- the algorithm's name
 unfoldable pub algorithm : List ℕ
 algorithm = codes "md5"
-
--- two texts are the same, byte for byte
-unfoldable pub same : List ℕ → List ℕ → Bool
-same [] [] = true
-same [] (y ∷ ys) = false
-same (x ∷ xs) [] = false
-same (x ∷ xs) (y ∷ ys) = eqb x y && same xs ys
 
 -- "A token ends before a space, tab, newline or the end of the slice": the token that starts at a place
 unfoldable pub tokenAt : List ℕ → ℕ → List ℕ

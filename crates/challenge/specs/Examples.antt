@@ -6,11 +6,11 @@ use Rattle.refusal.specs.declared.Refusal.{Refusal}
 use Rattle.text.specs.Scan.{runOf}
 use Rattle.text.specs.Digits.{numberAfter}
 use Rattle.text.specs.Quoted.{codes}
-use Rattle.text.specs.Tests.{every}
+use Rattle.text.specs.Tests.{every, same}
 use Rattle.password.specs.Checks.{plain}
 use Rattle.challenge.specs.declared.reading.Challenge.{Challenge}
 use Rattle.challenge.specs.Counts.{isCount}
-use Rattle.challenge.specs.Challenges.{opening, algorithm, same, tokenAt, nextAt, countAt, seedAt, challengeOf, seedOf}
+use Rattle.challenge.specs.Challenges.{opening, algorithm, tokenAt, nextAt, countAt, seedAt, challengeOf, seedOf}
 
 -- what a challenge says, and its seed
 unfoldable pub said : List ℕ → Challenge × List ℕ

@@ -5,7 +5,7 @@ use mathlib.Core.Bool.{Bool, true, false, cond, not, _&&_, _||_}
 use mathlib.Core.List.{List, [], _∷_, _++_, append-assoc, append-nil, map}
 use native.Mathlib.Omega.{arith}
 use native.Mathlib.Nat.{pow-le-pow-right}
-use lib.Dec.{eqb, leb, ltb, eqb·suc-suc, eqb·zero-suc}
+use lib.Dec.{eqb, leb, ltb}
 use lib.ListN.{length, take, drop, getD, length-append, length-drop, length-map, length-take}
 use lib.Seq.{length-take-le}
 use borrow.Author.Tests.{eqb-true, eq-eqb, leb-true, lt-ltb}
@@ -22,24 +22,8 @@ use Rattle.challenge.specs.declared.reading.Challenge.{Challenge}
 use Rattle.challenge.specs.Counts.{leadingZero, isCount, countedOf, widthOf, decimalOf}
 use Rattle.text.specs.Scan.{runOf}
 use Rattle.text.specs.ScanLaws.{run-within}
-use Rattle.text.specs.Tests.{every, both, either, cases}
-use Rattle.challenge.specs.Challenges.{opening, algorithm, challengeText, same, tokenAt, endOf, nextAt, countAt, seedAt, terminated, must, step1, step2, step3, step4, step5, found, challengeOf, startOf, lengthOf, seedOf}
-
--- ---- the same text
-
-pub same-refl : (s : List ℕ) → same s s ≡ true
-unfolding same
-same-refl [] = refl
-same-refl (b ∷ s) = ap₂ (λ (t u : Bool). t && u) (eq-eqb b b refl) (same-refl s)
-
-pub same-equal : (s t : List ℕ) → same s t ≡ true → s ≡ t
-unfolding same
-same-equal [] [] e = refl
-same-equal [] (c ∷ t) e = let z : _≡_ {A = ℕ} 0 1 = cc in absurd (omega arith)
-same-equal (b ∷ s) [] e = let z : _≡_ {A = ℕ} 0 1 = cc in absurd (omega arith)
-same-equal (b ∷ s) (c ∷ t) e =
-    let halves = both (eqb b c) (same s t) e in
-    ap₂ (λ (x : ℕ) (l : List ℕ). x ∷ l) (eqb-true b c (halves .0)) (same-equal s t (halves .1))
+use Rattle.text.specs.Tests.{every, both, either, cases, same, same-equal}
+use Rattle.challenge.specs.Challenges.{opening, algorithm, challengeText, tokenAt, endOf, nextAt, countAt, seedAt, terminated, must, step1, step2, step3, step4, step5, found, challengeOf, startOf, lengthOf, seedOf}
 
 -- ---- tokens and their places
 
@@ -57,16 +41,6 @@ token-within text at h = rw length-token (run-ends-within inToken text at h)
 pub next-within : (text : List ℕ) (at : ℕ) → at ≤ length text → nextAt text at ≤ length text
 unfolding nextAt
 next-within text at h = run-ends-within isBlank text (endOf text at) (token-within text at h)
-
--- a test holds of each byte exactly if its run goes to the end
-pub run-whole : (test : ℕ → Bool) (s : List ℕ) → eqb (runOf test s) (length s) ≡ every test s
-unfolding runOf every
-run-whole test [] = refl
-run-whole test (b ∷ s) = one-more (test b) (every test s) (runOf test s) (length s) (run-whole test s)
-  where
-    one-more : (t p : Bool) (n m : ℕ) → eqb n m ≡ p → eqb (cond t (suc n) 0) (suc m) ≡ (t && p)
-    one-more true p n m e = eqb·suc-suc n m ∙ e
-    one-more false p n m e = eqb·zero-suc m
 
 -- ---- counts
 

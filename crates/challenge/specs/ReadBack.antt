@@ -11,7 +11,7 @@ use lib.Seq.{take-append-seam, drop-append-seam, drop-append-add}
 use borrow.Author.Tests.{eq-eqb, ne-eqb, le-leb, lt-leb, lt-ltb, leb-true, leb-false, ltb-true, ltb-false}
 use Rattle.refusal.specs.declared.Checked.{Checked}
 use Rattle.text.specs.Kinds.{inToken, isBlank, isDigit, isLetter, isUpper, isLower, lowerOf}
-use Rattle.text.specs.Tests.{every, every-append, every-weaker, second-fails, both, either, cases}
+use Rattle.text.specs.Tests.{every, every-append, every-weaker, second-fails, both, either, cases, same, same-self}
 use Rattle.text.specs.Scan.{runOf}
 use Rattle.text.specs.ScanLaws.{run-until}
 use Rattle.text.specs.Digits.{digitOf, digitsOf, numberOf}
@@ -21,8 +21,8 @@ use Rattle.password.specs.Checks.{plain, seedChecked}
 use Rattle.password.specs.Laws.{good-seed}
 use Rattle.challenge.specs.declared.reading.Challenge.{Challenge}
 use Rattle.challenge.specs.Counts.{leadingZero, isCount, widthOf, decimalOf}
-use Rattle.challenge.specs.Challenges.{opening, algorithm, same, tokenAt, endOf, nextAt, countAt, seedAt, terminated, found, challengeOf, startOf, lengthOf, seedOf, challengeText}
-use Rattle.challenge.specs.Laws.{same-refl, width-few, length-decimal, length-challenge, all-good, found-is, seed-part}
+use Rattle.challenge.specs.Challenges.{opening, algorithm, tokenAt, endOf, nextAt, countAt, seedAt, terminated, found, challengeOf, startOf, lengthOf, seedOf, challengeText}
+use Rattle.challenge.specs.Laws.{width-few, length-decimal, length-challenge, all-good, found-is, seed-part}
 
 -- ---- the bytes that are written end no token
 
@@ -50,7 +50,7 @@ plain-lower b e = either (λ (c : ℕ). (isLetter c || isDigit c) ≡ true) (isU
 
 -- a seed in lower case is letters and digits only, and no blank
 lower-plain : (seed : List ℕ) → plain seed ≡ true → plain (map lowerOf seed) ≡ true
-unfolding plain
+unfolding plain every
 lower-plain [] e = refl
 lower-plain (b ∷ seed) e =
     let halves = both (isLetter b || isDigit b) (plain seed) e in
@@ -166,7 +166,7 @@ module _ (seed : List ℕ) (count : ℕ) (good : seedChecked seed ≡ Checked.Go
 
   opening-read : same (take 4 text) opening ≡ true
   unfolding opening codes
-  opening-read = ap (λ (l : List ℕ). same (take 4 l) opening) name-there ∙ same-refl opening
+  opening-read = ap (λ (l : List ℕ). same (take 4 l) opening) name-there ∙ same-self opening
 
   name-read : tokenAt text 4 ≡ algorithm
   unfolding opening algorithm codes every
@@ -216,7 +216,7 @@ module _ (seed : List ℕ) (count : ℕ) (good : seedChecked seed ≡ Checked.Go
   pub written-read : challengeOf (challengeText seed count) ≡ Challenge.Read count (9 + widthOf count) (length seed) (length (challengeText seed count))
   unfolding algorithm codes
   written-read =
-      all-good text opening-read (ap (λ (t : List ℕ). same t algorithm) name-read ∙ same-refl algorithm)
+      all-good text opening-read (ap (λ (t : List ℕ). same t algorithm) name-read ∙ same-self algorithm)
       (ap isCount count-read ∙ decimal-count count low)
       (ap seedChecked seed-read ∙ lower-good seed good)
       ended

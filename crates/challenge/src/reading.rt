@@ -2,6 +2,7 @@
 ghost use mathlib.Core.Path.{_≡_};
 ghost use Prim.Native.Nat.{_+_, _≤_};
 ghost use lib.ListN.{length, take, drop};
+ghost use Rattle.text.specs.Tests.{same as sameText};
 ghost use Rattle.challenge.specs.Challenges as spec;
 use crate::counts::Counted;
 use crate::counts::read_count;
@@ -29,14 +30,14 @@ pub enum Challenge {
 
 // Whether two texts are the same.
 fn same(a: &[u8], b: &[u8]) -> bool
-    ensures { λ r. ⌜ r ≡ spec.same (now (a .entry)) (now (b .entry)) ⌝ }
+    ensures { λ r. ⌜ r ≡ sameText (now (a .entry)) (now (b .entry)) ⌝ }
 {
     check::same(a, b)
 }
 
 // Whether the text starts with the four bytes.
 fn is_opened(text: &[u8]) -> bool
-    ensures { λ r. ⌜ r ≡ spec.same (take 4 (now (text .entry))) spec.opening ⌝ }
+    ensures { λ r. ⌜ r ≡ sameText (take 4 (now (text .entry))) spec.opening ⌝ }
 {
     if text.len() < 4 {
         return false;

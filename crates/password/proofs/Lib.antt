@@ -1,4 +1,3 @@
 -- What the proofs of `password`'s functions share.
 pub mod Fold
-pub mod Plain
 pub mod Chain

@@ -7,6 +7,7 @@ use Rattle.block.specs.Lists.{upTo}
 use Rattle.block.specs.Padding.{paddedByte, paddedWord, blockAt, absorbed}
 use Rattle.md5.specs.Md5.{md5, registers, compressed, rounds, performed, operation, round1, round2, round3, round4}
 use Rattle.text.specs.Quoted.{codes}
+use Rattle.text.specs.Tests.{every}
 use Rattle.password.specs.Checks.{plain}
 use Rattle.password.specs.Password.{Algorithm, fold, numberAfter, hash, password, generated}
 
@@ -16,5 +17,5 @@ row count = generated Algorithm.md5 (codes "This is a test.") (codes "TeSt") cou
 
 pub examples : map row (0 ∷ 1 ∷ [])
     ≡ Reading.Password 0x9e876134d90499dd ∷ Reading.Password 0x7965e05436f5029f ∷ []
-unfolding row codes generated plain password hash fold numberAfter md5 registers absorbed compressed rounds performed operation round1 round2 round3 round4 blockAt paddedWord paddedByte upTo
+unfolding row codes generated plain every password hash fold numberAfter md5 registers absorbed compressed rounds performed operation round1 round2 round3 round4 blockAt paddedWord paddedByte upTo
 examples = refl

@@ -7,6 +7,7 @@ use native.Mathlib.Omega.{arith}
 use native.Mathlib.Numerals.{add-one}
 use lib.ListN.{length, getD, take, drop, length-take, drop-of-length-le}
 use lib.Seq.{drop-cons, append-snoc, take-length, drop-length, take-append-seam, drop-append-seam}
+use lib.Dec.{eqb, eqb·suc-suc, eqb·zero-suc}
 use borrow.Author.Tests.{not-true}
 use Rattle.text.specs.Tests.{every, either, cases, both}
 use Rattle.text.specs.Kinds.{isWhite, isSolid}
@@ -148,3 +149,13 @@ unspaced-solid (b ∷ s) e =
     let halves = both (isSolid b) (every isSolid s) e in
     ap (λ (t : Bool). cond t (unspaced s) (b ∷ unspaced s)) (not-true (isWhite b) (halves .0))
     ∙ ap (λ (l : List ℕ). b ∷ l) (unspaced-solid s (halves .1))
+
+-- a test holds of each byte exactly if its run goes to the end
+pub run-whole : (test : ℕ → Bool) (s : List ℕ) → eqb (runOf test s) (length s) ≡ every test s
+unfolding runOf every
+run-whole test [] = refl
+run-whole test (b ∷ s) = one-more (test b) (every test s) (runOf test s) (length s) (run-whole test s)
+  where
+    one-more : (t p : Bool) (n m : ℕ) → eqb n m ≡ p → eqb (cond t (suc n) 0) (suc m) ≡ (t && p)
+    one-more true p n m e = eqb·suc-suc n m ∙ e
+    one-more false p n m e = eqb·zero-suc m

@@ -11,9 +11,10 @@ use Rattle.text.specs.Kinds.{isDigit}
 use Rattle.text.specs.Scan.{runOf}
 use Rattle.text.specs.Tests.{every, both}
 use Rattle.text.specs.Digits.{numberOf}
+use Rattle.text.specs.ScanLaws.{run-whole}
 use Rattle.challenge.specs.declared.counts.Counted.{Counted}
 use Rattle.challenge.specs.Counts.{leadingZero, isCount, countedOf}
-use Rattle.challenge.specs.Laws.{run-whole, count-digits}
+use Rattle.challenge.specs.Laws.{count-digits}
 use Rattle.challenge.proofs.counts.read_count.Statement.{statement}
 use Rattle.challenge.proofs.counts.read_count.Tie as tie
 

@@ -8,8 +8,8 @@ use native.Mathlib.Omega.{arith}
 use lib.ListN.{length, take}
 use lib.Seq.{length-take-le}
 use Rattle.text.specs.Quoted.{codes}
-use Rattle.text.specs.Tests.{cases}
-use Rattle.challenge.specs.Challenges.{same, opening}
+use Rattle.text.specs.Tests.{cases, same}
+use Rattle.challenge.specs.Challenges.{opening}
 use Rattle.challenge.specs.Laws.{opened-long}
 use Rattle.challenge.proofs.reading.is_opened.Statement.{statement}
 use Rattle.challenge.proofs.reading.is_opened.Tie as tie

@@ -11,9 +11,10 @@ use Rattle.refusal.specs.declared.Checked.{Checked}
 use Rattle.text.specs.Quoted.{codes}
 use Rattle.text.specs.Digits.{numberOf}
 use Rattle.password.specs.Checks.{seedChecked}
+use Rattle.text.specs.Tests.{same}
 use Rattle.challenge.specs.declared.counts.Counted.{Counted}
 use Rattle.challenge.specs.Counts.{isCount, countedOf}
-use Rattle.challenge.specs.Challenges.{opening, algorithm, same, tokenAt, endOf, nextAt, countAt, seedAt, terminated}
+use Rattle.challenge.specs.Challenges.{opening, algorithm, tokenAt, endOf, nextAt, countAt, seedAt, terminated}
 use Rattle.challenge.specs.Laws.{is-read, is-unread, opened-long, next-within, token-within, stop1, stop2, stop3, stop4, stop5, all-good, found-is}
 use Rattle.challenge.proofs.reading.read.Statement.{statement}
 use Rattle.challenge.proofs.reading.read.Tie as tie

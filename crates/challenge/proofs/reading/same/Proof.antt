@@ -4,14 +4,13 @@ use Prim.Native.Nat.{ℕ}
 use mathlib.Core.Path.{_≡_, refl, sym, _∙_, ap}
 use mathlib.Core.Bool.{Bool, true, false}
 use mathlib.Core.List.{List}
-use Rattle.challenge.specs.Challenges.{same}
-use Rattle.challenge.specs.Laws.{same-refl, same-equal}
+use Rattle.text.specs.Tests.{same, same-self, same-equal}
 use Rattle.challenge.proofs.reading.same.Statement.{statement}
 use Rattle.challenge.proofs.reading.same.Tie as tie
 
 -- an answer that is true exactly if the texts are equal
 decides : (a b : List ℕ) (r : Bool) → (r ≡ true → a ≡ b) × (a ≡ b → r ≡ true) → r ≡ same a b
-decides a b true e = sym (ap (same a) (sym (e .0 refl)) ∙ same-refl a)
+decides a b true e = sym (ap (same a) (sym (e .0 refl)) ∙ same-self a)
 decides a b false e = by (same a b) refl
   where
     by : (t : Bool) → same a b ≡ t → false ≡ same a b

@@ -4,13 +4,18 @@ use Prim.Native.Nat.{ℕ}
 use mathlib.Core.Path.{ap, _∙_}
 use lib.Dec.{eqb}
 use lib.ListN.{length}
-use Rattle.password.proofs.Plain.{run-plain}
+use Rattle.text.specs.declared.kinds.Kind.{Kind}
+use Rattle.text.specs.Kinds.{ofKind}
+use Rattle.text.specs.ScanLaws.{run-whole}
+use Rattle.password.specs.Checks.{plain}
 use Rattle.password.proofs.checks.is_plain.Statement.{statement}
 use Rattle.password.proofs.checks.is_plain.Tie as tie
 
+returns : tie.Need-returns
+unfolding plain
+returns c =
+    let s = c .before .before .args .s .now in
+    ap (λ (n : ℕ). eqb n (length s)) (c .run .ensures) ∙ run-whole (ofKind Kind.LetterOrDigit) s
+
 pub is-plain-spec : {M : Type 1} → statement M
-is-plain-spec =
-    tie.close
-    (tie.spec
-    (λ c κs. search needs)
-    (λ c. ap (λ (n : ℕ). eqb n (length (c .before .before .args .s .now))) (c .run .ensures) ∙ run-plain (c .before .before .args .s .now)))
+is-plain-spec = tie.close (tie.spec (λ c κs. search needs) returns)
