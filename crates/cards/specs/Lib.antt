@@ -3,3 +3,5 @@ pub mod Cards
 pub mod Inside
 pub mod Laws
 pub mod Answers
+pub mod Examples
+pub mod Determined

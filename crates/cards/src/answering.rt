@@ -71,7 +71,6 @@ fn lines_asked(t: &[u8]) -> u32
 fn put_refused(buf: &mut [u8], why: Refusal) -> usize
     requires { ⌜ 13 ≤ length (now buf) ⌝ }
     ensures { λ r. ⌜ Put (refusedText why) (now (buf .entry)) (now (buf .exit)) r ⌝ }
-    ensures { λ r. ⌜ r ≤ 13 ⌝ }
 {
     let listing = listing_of(why);
     let number = listing.0;
@@ -82,8 +81,7 @@ fn put_refused(buf: &mut [u8], why: Refusal) -> usize
 
 // The answer to an input at the front of the buffer, which has room for the largest card: 99 lines of 52 bytes.
 pub fn answer(input: &[u8], buf: &mut [u8; 5148]) -> usize
-    ensures answered { λ r. ⌜ Put (answerOf (now (input .entry))) (now (buf .entry)) (now (buf .exit)) r ⌝ }
-    ensures within { λ r. ⌜ r ≤ 5148 ⌝ }
+    ensures { λ r. ⌜ Put (answerOf (now (input .entry))) (now (buf .entry)) (now (buf .exit)) r ⌝ }
 {
     if 256 < input.len() {
         return put_refused(buf, Refusal::InputLong);

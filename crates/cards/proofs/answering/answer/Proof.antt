@@ -45,8 +45,10 @@ answered : (c : tie.After-write-card) →
     c .write-card .result ≡ cardWritten (firstLine (input c)) (keptLine (pastLine (input c))) (linesAsked (firstLine (pastLine (pastLine (input c))))) 5148
 answered c = c .write-card .ensures .0 ∙ same-written (c .before .before .before .first-line2 .ensures) (challenge c) (lines c) (room c)
 
-left : (c : tie.After-write-card) → c .write-card .last .1 .1 .1 .0
-    ≡ leaves (c .write-card .result) (cardOf (firstLine (input c)) (keptLine (pastLine (input c))) (linesAsked (firstLine (pastLine (pastLine (input c)))))) (start c .args .buf .now)
+abbrev card : tie.After-write-card → List ℕ
+card c = cardOf (firstLine (input c)) (keptLine (pastLine (input c))) (linesAsked (firstLine (pastLine (pastLine (input c)))))
+
+left : (c : tie.After-write-card) → c .write-card .last .1 .1 .1 .0 ≡ leaves (c .write-card .result) (card c) (start c .args .buf .now)
 left c =
     c .write-card .ensures .1
     ∙ ap (λ (t : List ℕ). leaves (c .write-card .result) t (start c .args .buf .now)) (same-card (c .before .before .before .first-line2 .ensures) (challenge c) (lines c))
@@ -58,31 +60,29 @@ printed c = short-input (input c) (c .before .before .before .before .before .be
 
 returns : tie.Need-returns
 returns c =
-    let a = c .before .before .before .before .args in (
-      subst (λ (t : List ℕ). Put t (a .buf .now) (c .put-refused .last .0) (c .put-refused .result)) (long-input (a .input .now) (c .before .before .if1 .taken)) (c .put-refused .ensures .0),
-      omega (arith, c .put-refused .ensures .1),
-    )
+    let a = c .before .before .before .before .args in
+    subst (λ (t : List ℕ). Put t (a .buf .now) (c .put-refused .last .0) (c .put-refused .result)) (long-input (a .input .now) (c .before .before .if1 .taken)) (c .put-refused .ensures)
 
 returns-2 : tie.Need-returns-2
 returns-2 c =
     let call = c .before .before .before in
     let told = c .before .n .given .1 in
-    let text = cardOf (firstLine (input call)) (keptLine (pastLine (input call))) (linesAsked (firstLine (pastLine (pastLine (input call))))) in
-    let wrote = wrote-card (firstLine (input call)) (keptLine (pastLine (input call))) (linesAsked (firstLine (pastLine (pastLine (input call))))) (c .before .n .given .0 .0)
-    (start call .args .buf .now) (call .write-card .last .1 .1 .1 .0) (sym told ∙ answered call)
-    (left call ∙ ap (λ (r : Written). leaves r text (start call .args .buf .now)) told) in
-    (subst (λ (t : List ℕ). Put t (start call .args .buf .now) (call .write-card .last .1 .1 .1 .0) (c .before .n .given .0 .0)) (printed call) (wrote .0), wrote .1)
+    let b = start call .args .buf .now in
+    let b′ = call .write-card .last .1 .1 .1 .0 in
+    let n = c .before .n .given .0 .0 in
+    subst (λ (t : List ℕ). Put t b b′ n) (printed call)
+    (wrote-card (firstLine (input call)) (keptLine (pastLine (input call))) (linesAsked (firstLine (pastLine (pastLine (input call))))) n b b′
+    (sym told ∙ answered call) (left call ∙ ap (λ (r : Written). leaves r (card call) b) told))
 
 returns-3 : tie.Need-returns-3
 returns-3 c =
     let call = c .before .before .before .before .before in
     let told = c .before .before .before .why .given .1 in
-    let text = cardOf (firstLine (input call)) (keptLine (pastLine (input call))) (linesAsked (firstLine (pastLine (pastLine (input call))))) in
-    let kept : call .write-card .last .1 .1 .1 .0 ≡ start call .args .buf .now = left call ∙ ap (λ (r : Written). leaves r text (start call .args .buf .now)) told in
-    let refusal = refused-card (firstLine (input call)) (keptLine (pastLine (input call))) (linesAsked (firstLine (pastLine (pastLine (input call))))) _ (sym told ∙ answered call) ∙ printed call in (
-      subst₂ (λ (t b : List ℕ). Put t b (c .put-refused2 .last .0) (c .put-refused2 .result)) refusal kept (c .put-refused2 .ensures .0),
-      omega (arith, c .put-refused2 .ensures .1),
-    )
+    let b = start call .args .buf .now in
+    subst₂ (λ (t b : List ℕ). Put t b (c .put-refused2 .last .0) (c .put-refused2 .result))
+    (refused-card (firstLine (input call)) (keptLine (pastLine (input call))) (linesAsked (firstLine (pastLine (pastLine (input call))))) _ (sym told ∙ answered call) ∙ printed call)
+    (left call ∙ ap (λ (r : Written). leaves r (card call) b) told)
+    (c .put-refused2 .ensures)
 
 pub answer-spec : {M : Type 1} → statement M
 answer-spec =

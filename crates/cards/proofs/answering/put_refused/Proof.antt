@@ -50,12 +50,10 @@ returns c =
     let third = c .before .before in
     let second = third .before .before .before .before .before in
     let first = second .before .before .before .before in
-    let a = first .before .before .before .before .before .args in (
-      refused (a .why) (first .before .before .before .listing-of .result) (a .buf .now) _ _ (first .before .before .before .listing-of .ensures)
-          (then-put (codes "refused " ++ decimalOf (number second)) (10 ∷ []) (a .buf .now) _ _ _ _
-          (then-put (codes "refused ") (decimalOf (number second)) (a .buf .now) _ _ _ _ (first .copy .ensures) (second .put-count .ensures)) (third .copy2 .ensures)),
-      omega (arith, first .copy .ensures .0, few second, third .copy2 .ensures .0),
-    )
+    let a = first .before .before .before .before .before .args in
+    refused (a .why) (first .before .before .before .listing-of .result) (a .buf .now) _ _ (first .before .before .before .listing-of .ensures)
+    (then-put (codes "refused " ++ decimalOf (number second)) (10 ∷ []) (a .buf .now) _ _ _ _
+    (then-put (codes "refused ") (decimalOf (number second)) (a .buf .now) _ _ _ _ (first .copy .ensures) (second .put-count .ensures)) (third .copy2 .ensures))
 
 pub put-refused-spec : {M : Type 1} → statement M
 put-refused-spec =
