@@ -1,6 +1,6 @@
 # What a person types. Each target works on a fresh clone with the kit's rt, gcc and python3 on the PATH.
 SHELL := /bin/bash
-.PHONY: test bench
+.PHONY: test bench card
 .DEFAULT_GOAL := test
 
 # The gate: layout, every proof from nothing with the must-fail edits and the programs, the host tests.
@@ -12,6 +12,15 @@ test:
 	rt ci | tee "$$said"; \
 	python3 host/test.py; \
 	tail -n 1 "$$said" | grep -xE '[0-9]+ passed, 0 failed'
+
+# A card: three lines on standard input, the card on standard output and nothing else there. The program
+# is proved and built first where that isn't done yet; what there is to say of it goes to standard error.
+card:
+	@set -euo pipefail; \
+	[ -x target/bin/card ] || echo 'card: proving and building the program first, about three minutes, this once' >&2; \
+	said=$$(mktemp); trap 'rm -f "$$said"' EXIT; \
+	rt check card </dev/null >"$$said" 2>&1 || { cat "$$said" >&2; exit 1; }; \
+	target/bin/card
 
 # Ratios to plain C and to Heimdal's library, in one run.
 bench:

@@ -6,7 +6,7 @@ use Rattle.bytes.specs.Bytes.{indexOf, indexAfter}
 use Rattle.text.specs.Scan.{runOf}
 use Rattle.text.specs.Digits.{digitsOf, numberAfter}
 use Rattle.text.specs.Quoted.{codes}
-use Rattle.text.specs.Tests.{every}
+use Rattle.text.specs.Tests.{every, same}
 use Rattle.block.specs.Lists.{upTo}
 use Rattle.block.specs.Padding.{paddedByte, paddedWord, blockAt, absorbed}
 use Rattle.md5.specs.Md5.{md5, registers, compressed, rounds, performed, operation, round1, round2, round3, round4}
@@ -16,7 +16,7 @@ use Rattle.dictionary.specs.Words.{wordsIn, lines, words}
 use Rattle.sixwords.specs.Places.{pairs, pairSum, whole, cut, placesOf}
 use Rattle.reply.specs.Writing.{spacedFrom}
 use Rattle.challenge.specs.Counts.{isCount}
-use Rattle.challenge.specs.Challenges.{opening, algorithm, same, tokenAt, nextAt, countAt, seedAt, challengeOf}
+use Rattle.challenge.specs.Challenges.{opening, algorithm, tokenAt, nextAt, countAt, seedAt, challengeOf}
 use Rattle.cards.specs.Cards.{lineOf, cardText, cardChecked, cardOf}
 use Rattle.cards.specs.Answers.{linesAsked, refusedText, printedCard, answerOf}
 
