@@ -1,0 +1,2 @@
+-- What the proofs of `line`'s functions share.
+pub mod Places
