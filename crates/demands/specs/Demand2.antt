@@ -1,0 +1,68 @@
+-- The letter's second demand, for texts: what is written is read back, and six words are accepted exactly if some password is written with
+-- them. That the texts are RFC 2289's is not said here: the definitions say it, and the vectors. That every table call does just what the
+-- written steps say is the promise of each call of `login`.
+use Prim.Native.Nat.{ℕ, _+_, _^_, _≤_, _<_}
+use mathlib.Core.Path.{_≡_, _∙_}
+use mathlib.Core.Bool.{true, false}
+use mathlib.Core.List.{List, map}
+use mathlib.Core.Logic.{_↔_}
+use lib.ListN.{length, take}
+use Rattle.refusal.specs.declared.Checked.{Checked}
+use Rattle.refusal.specs.declared.Reading.{Reading}
+use Rattle.refusal.specs.declared.Written.{Written}
+use Rattle.text.specs.Kinds.{lowerOf}
+use Rattle.text.specs.Scan.{tokens, unspaced}
+use Rattle.text.specs.Front.{Writes}
+use Rattle.password.specs.Checks.{phraseChecked, seedChecked}
+use Rattle.password.specs.Password.{Algorithm, password, generated}
+use Rattle.password.specs.Laws.{generated-good}
+use Rattle.challenge.specs.declared.reading.Challenge.{Challenge}
+use Rattle.challenge.specs.Counts.{widthOf}
+use Rattle.challenge.specs.Challenges.{challengeOf, seedOf, challengeText}
+use Rattle.challenge.specs.ReadBack.{written-read, written-seed-read}
+use Rattle.reply.specs.Writing.{hexOf, sixWordsOf, wordsOf}
+use Rattle.reply.specs.Reading.{sixWords, upperText, readingOf}
+use Rattle.reply.specs.Laws as Laws
+use Rattle.demands.specs.Replies.{password-low}
+
+-- "what we write we read back as the same password": the hex that was written at the front of a buffer, and the words.
+pub hex-read-back : (p : ℕ) → p < 2 ^ 64 → (b b′ : List ℕ) (n : ℕ) → Writes (hexOf p) b b′ (Written.Wrote n)
+    → readingOf (take n b′) ≡ Reading.Password p
+hex-read-back p h b b′ n w = Laws.hex-read-back p b b′ n h w
+
+pub words-read-back : (p : ℕ) → p < 2 ^ 64 → (b b′ : List ℕ) (n : ℕ) → Writes (wordsOf p) b b′ (Written.Wrote n)
+    → readingOf (take n b′) ≡ Reading.Password p
+words-read-back p h b b′ n w = Laws.words-read-back p b b′ n h w
+
+-- Every password that the generator gives is such a number.
+pub generated-fits : (phrase seed : List ℕ) (count : ℕ) → password Algorithm.md5 phrase seed count < 2 ^ 64
+generated-fits phrase seed count = password-low phrase seed count
+
+-- "six words of one to four letters, in either case, in a reply of at most 128 bytes, are accepted exactly if some password is written with
+-- them", and then as that password.
+pub six-words-accepted : (text : List ℕ) → length text ≤ 128 → sixWords (tokens text) ≡ true
+    → ((p : ℕ) × (readingOf text ≡ Reading.Password p)) ↔ ((p : ℕ) × (p < 2 ^ 64) × (map upperText (tokens text) ≡ sixWordsOf p))
+six-words-accepted text h e = (
+  λ a. let w = Laws.words-accepted text h e (a .0) .0 (a .1) in (a .0, w .0, w .1),
+  λ a. (a .0, Laws.words-accepted text h e (a .0) .1 (a .1, a .2)),
+)
+
+pub six-words-accepted-as : (text : List ℕ) → length text ≤ 128 → sixWords (tokens text) ≡ true
+    → (p : ℕ) → (readingOf text ≡ Reading.Password p) ↔ ((p < 2 ^ 64) × (map upperText (tokens text) ≡ sixWordsOf p))
+six-words-accepted-as text h e p = Laws.words-accepted text h e p
+
+-- Any other text, exactly if its bytes without white space are the hex digits of a password, in either case.
+pub hex-accepted-as : (text : List ℕ) → length text ≤ 128 → sixWords (tokens text) ≡ false
+    → (p : ℕ) → (readingOf text ≡ Reading.Password p) ↔ ((p < 2 ^ 64) × (map lowerOf (unspaced text) ≡ hexOf p))
+hex-accepted-as text h e p = Laws.hex-accepted text h e p
+
+-- A challenge that is written is read back: the count, the seed in lower case, and all its bytes.
+pub challenge-read-back : (seed : List ℕ) (count : ℕ) → seedChecked seed ≡ Checked.Good → count ≤ 9999
+    → (challengeOf (challengeText seed count) ≡ Challenge.Read count (9 + widthOf count) (length seed) (length (challengeText seed count)))
+    × (seedOf (challengeText seed count) ≡ map lowerOf seed)
+challenge-read-back seed count good low = (written-read seed count good low, written-seed-read seed count good low)
+
+-- The generator gives the password of this pass-phrase, seed and count, for all that it takes.
+pub generator-gives : (phrase seed : List ℕ) (count : ℕ) → phraseChecked phrase ≡ Checked.Good → seedChecked seed ≡ Checked.Good → count ≤ 9999
+    → generated Algorithm.md5 phrase seed count ≡ Reading.Password (password Algorithm.md5 phrase seed count)
+generator-gives phrase seed count long good low = generated-good Algorithm.md5 phrase seed count long good low

@@ -1,0 +1,72 @@
+-- The letter's third demand, a theorem for each sentence.
+use Prim.Native.Nat.{ℕ, _-_, _≤_, _<_}
+use mathlib.Core.Path.{_≡_, sym, ap, _∙_}
+use mathlib.Core.Bool.{true}
+use mathlib.Core.List.{List}
+use lib.ListN.{length}
+use Rattle.refusal.specs.declared.Checked.{Checked}
+use Rattle.text.specs.Tests.{every}
+use Rattle.password.specs.Checks.{phraseChecked}
+use Rattle.password.specs.Password.{Algorithm, password}
+use Rattle.login.specs.Table.{Room, State, accountOf, turnId}
+use Rattle.challenge.specs.Challenges.{challengeText}
+use Rattle.login.specs.Steps.{join, challengeFor}
+use Rattle.login.specs.Calls.{Call, after, run}
+use Rattle.demands.specs.Turns.{Reached, ticks, quiet, quietMeanwhile, HasTurn, TurnBegins}
+use Rattle.demands.specs.Day.{Day}
+use Rattle.demands.specs.Reach.{wait-ends, all-meanwhile, joined-waits, reached-run, reached-after}
+use Rattle.demands.specs.Keeps.{made}
+use Rattle.demands.specs.Owned.{call-keeps, turn-keeps}
+use Rattle.demands.specs.Answering.{day}
+
+-- "From a fresh table, after any calls, a port that joins successfully has its turn begin by the 180th tick, if its account
+-- isn't removed and the port only looks at its challenge meanwhile, whatever other ports do."
+pub turn-begins : (s : State) → Reached s → (p i : ℕ) → join p i s .answer ≡ Checked.Good
+    → (later : List Call) → quietMeanwhile p i later (join p i s .state) ≡ true → 180 ≤ ticks later
+    → TurnBegins p i 180 later (join p i s .state)
+turn-begins s r p i e later q t =
+    let waits = joined-waits p i s (made s r .standing) e in
+    wait-ends p i later 180 (join p i s .state) (waits .0) (waits .1) q t
+
+-- The same where every later call is quiet.
+pub turn-begins-quiet : (s : State) → Reached s → (p i : ℕ) → join p i s .answer ≡ Checked.Good
+    → (later : List Call) → every (quiet p i) later ≡ true → 180 ≤ ticks later
+    → TurnBegins p i 180 later (join p i s .state)
+turn-begins-quiet s r p i e later q t = turn-begins s r p i e later (all-meanwhile p i later (join p i s .state) q) t
+
+-- "During that turn only its own calls change the account's count or stored password, removal aside": a call that is not the port's
+-- own, or is Challenge, and does not remove the account leaves it as it is, its seed too.
+pub turn-is-own : (s : State) → Reached s → (p i : ℕ) → HasTurn p i s → (c : Call) → quiet p i c ≡ true
+    → accountOf i (after c s) ≡ accountOf i s
+turn-is-own s r p i t c q = call-keeps p i s (made s r) t c q
+
+-- So any number of such calls do, from one moment of the turn to another.
+pub turn-stays-own : (s : State) → Reached s → (p i : ℕ) → HasTurn p i s
+    → (during : List Call) → every (quiet p i) during ≡ true → HasTurn p i (run during s)
+    → accountOf i (run during s) ≡ accountOf i s
+turn-stays-own s r p i t during q u = turn-keeps p i during s (made s r) t q u
+
+-- "If the account isn't used up, and its stored password is what this pass-phrase, seed and count give, then the generator's reply to
+-- the challenge, in hex or words, is accepted in that turn." The pass-phrase is one that the generator takes, and the buffer for the
+-- challenge has room for it.
+pub reply-is-accepted : (s : State) → Reached s → (p i : ℕ) → HasTurn p i s → (phrase : List ℕ) → phraseChecked phrase ≡ Checked.Good
+    → 1 < accountOf i s .count
+    → accountOf i s .password ≡ password Algorithm.md5 phrase (accountOf i s .seed) (accountOf i s .count)
+    → (buffer : List ℕ) → length (challengeFor s) ≤ length buffer
+    → Day p i phrase buffer s
+reply-is-accepted s r p i t phrase long unused stored buffer room = day p i phrase buffer s (made s r) t unused long stored room
+
+-- The turn that the first sentence gives begins in a table of which the other two speak.
+pub turn-is-reached : (s : State) → Reached s → (p i : ℕ) (calls : List Call) → Reached (run calls (join p i s .state))
+turn-is-reached s r p i calls = reached-run (join p i s .state) calls (reached-after s (Call.Join p i) r)
+
+-- The challenge stays the same during the turn, so that the reply may come at any later moment of it.
+pub challenge-stays : (s : State) → Reached s → (p i : ℕ) → HasTurn p i s
+    → (during : List Call) → every (quiet p i) during ≡ true → HasTurn p i (run during s)
+    → challengeFor (run during s) ≡ challengeFor s
+challenge-stays s r p i t during q u =
+    let same : accountOf (turnId (run during s)) (run during s) ≡ accountOf (turnId s) s =
+    ap (λ (j : ℕ). accountOf j (run during s)) (u .account)
+    ∙ turn-stays-own s r p i t during q u
+    ∙ ap (λ (j : ℕ). accountOf j s) (sym (t .account)) in
+    ap (λ (room : Room). challengeText (room .seed) (room .count - 1)) same

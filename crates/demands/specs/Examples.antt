@@ -1,0 +1,73 @@
+-- Document 01, 'Checked examples': those marked [P], one list and one theorem.
+use Prim.Native.Nat.{ℕ, _%_}
+use mathlib.Core.Path.{_≡_, refl}
+use mathlib.Core.List.{List, [], _∷_, _++_, map, flatten}
+use Rattle.refusal.specs.declared.Refusal.{Refusal}
+use Rattle.refusal.specs.declared.Reading.{Reading}
+use Rattle.text.specs.Tests.{every, same}
+use Rattle.text.specs.Scan.{runOf, parted, unspaced}
+use Rattle.text.specs.Digits as Digits
+use Rattle.text.specs.Quoted.{codes}
+use Rattle.password.specs.Checks.{plain}
+use Rattle.dictionary.specs.Words.{wordsIn, lines, words}
+use Rattle.dictionary.specs.Dictionary.{standsFrom, placeOf as wordPlace}
+use Rattle.sixwords.specs.Places.{pairs, pairSum, whole, cut, placesOf, joined, allPlaces, numberOf}
+use Rattle.challenge.specs.declared.reading.Challenge.{Challenge}
+use Rattle.challenge.specs.Counts.{isCount}
+use Rattle.challenge.specs.Challenges.{opening, algorithm, tokenAt, nextAt, countAt, seedAt, challengeOf, seedOf}
+use Rattle.reply.specs.Reading.{isWord, sixWords, foundAfter, sixteenDigits, hexReading, readingOf}
+
+-- What an example asks for: the places of a number, its pair sum, what a challenge says, or a reply.
+pub data Asked : Type 0 where
+  placesFor : ℕ → Asked
+  sumFor : ℕ → Asked
+  challengeFor : List ℕ → Asked
+  replyFor : List ℕ → Asked
+
+-- What it prints: places, a pair sum with its remainder by 4, a challenge with its seed, or a reading.
+pub data Said : Type 0 where
+  places : List ℕ → Said
+  sum : ℕ → ℕ → Said
+  challenge : Challenge → List ℕ → Said
+  reply : Reading → Said
+
+-- What the definitions say.
+abbrev pub said : Asked → Said
+said (Asked.placesFor p) = places (placesOf p)
+said (Asked.sumFor p) = sum (pairSum p) (pairSum p % 4)
+said (Asked.challengeFor text) = challenge (challengeOf text) (seedOf text)
+said (Asked.replyFor text) = reply (readingOf text)
+
+abbrev pub newline : List ℕ
+newline = 10 ∷ []
+
+abbrev pub refused : Refusal → Said
+refused why = challenge (Challenge.Refused why) []
+
+-- 85c43ee03857765b
+abbrev pub printed : ℕ
+printed = 0x85c4_3ee0_3857_765b
+
+abbrev pub examples : List (Asked × Said)
+examples =
+    (placesFor 0, places (0 ∷ 0 ∷ 0 ∷ 0 ∷ 0 ∷ 0 ∷ [])) ∷
+    (placesFor 1, places (0 ∷ 0 ∷ 0 ∷ 0 ∷ 0 ∷ 5 ∷ [])) ∷
+    (placesFor 0xffff_ffff_ffff_ffff, places (2047 ∷ 2047 ∷ 2047 ∷ 2047 ∷ 2047 ∷ 2044 ∷ [])) ∷
+    (sumFor printed, sum 46 2) ∷
+    (placesFor printed, places (1070 ∷ 271 ∷ 1472 ∷ 901 ∷ 955 ∷ 366 ∷ [])) ∷
+    (replyFor (codes "FOWL KID MASH DEAD DUAL OAF"), reply (Reading.Password printed)) ∷
+    (replyFor (codes "FOWL KID MASH DEAD DUAL NUT"), reply (Reading.Refused Refusal.PairSumWrong)) ∷
+    (replyFor (codes "FOWL KID MASH DEAD DUAL O"), reply (Reading.Refused Refusal.PairSumWrong)) ∷
+    (replyFor (codes "FOWL KID MASH DEAD DUAL OAK"), reply (Reading.Refused Refusal.PairSumWrong)) ∷
+    (challengeFor (codes "otp-md5 487 dog2" ++ newline), challenge (Challenge.Read 487 12 4 17) (codes "dog2")) ∷
+    (challengeFor (codes "otp-md5 487 dog2"), refused Refusal.SeedUnended) ∷
+    (challengeFor (codes "otp-md5 0487 dog2" ++ newline), refused Refusal.CountUnread) ∷
+    (challengeFor (codes "otp-md5 1 SixteenLettersAA" ++ newline), challenge (Challenge.Read 1 10 16 27) (codes "SixteenLettersAA")) ∷
+    (challengeFor (codes "otp-md5 1 SeventeenLettersA" ++ newline), refused Refusal.SeedLength) ∷
+    (challengeFor (codes "otp-md5 1 Length_Okay" ++ newline), refused Refusal.SeedCharacter) ∷
+    (replyFor (codes "85C4 3EE0 3857 765B"), reply (Reading.Password printed)) ∷
+    (replyFor (codes "85C4 3EE0 3857 765"), reply (Reading.Refused Refusal.ReplyUnread)) ∷ []
+
+pub examples-hold : map (λ (e : Asked × Said). said (e .0)) examples ≡ map (λ (e : Asked × Said). e .1) examples
+unfolding codes runOf Digits.numberAfter every plain isCount opening algorithm same tokenAt nextAt countAt seedAt challengeOf readingOf sixWords isWord foundAfter sixteenDigits hexReading parted unspaced wordsIn lines words flatten standsFrom wordPlace pairs pairSum whole cut placesOf joined allPlaces numberOf
+examples-hold = refl

@@ -1,0 +1,30 @@
+-- The letter's demands as theorems. A reader needs the demands (Demand3, OneStep, Tables), their words (Turns, Day, Made) and the
+-- definitions of the other crates; the rest is how they are proved.
+pub mod Turns
+pub mod Day
+pub mod Each
+pub mod Made
+pub mod Good
+pub mod Rooms
+pub mod Outcome
+pub mod Standing
+pub mod Few
+pub mod Moved
+pub mod Wait
+pub mod Waits
+pub mod Reach
+pub mod Keeps
+pub mod Owned
+pub mod Replies
+pub mod Answering
+pub mod Listed
+pub mod Refusing
+pub mod Unchanged
+pub mod Demand1
+pub mod Demand2
+pub mod Examples
+pub mod Given
+pub mod Tight
+pub mod Tables
+pub mod OneStep
+pub mod Demand3
