@@ -11,7 +11,7 @@ import time
 sys.dont_write_bytecode = True
 
 import harness  # noqa: E402
-from sections import cards, challenges, paper, passwords, replies, selftest  # noqa: E402
+from sections import cards, challenges, day, paper, passwords, replies, selftest  # noqa: E402
 
 SECTIONS = [
     ("comparison can fail", selftest.comparison_can_fail),
@@ -31,6 +31,7 @@ SECTIONS = [
     ("cards of every length", cards.cards_of_every_length),
     ("cards at random", cards.cards_at_random),
     ("program card", cards.program),
+    ("the day at a controller", day.stored_output),
 ]
 
 
