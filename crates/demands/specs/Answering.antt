@@ -15,6 +15,7 @@ use Rattle.text.specs.Tests.{every, both}
 use Rattle.text.specs.Front.{front}
 use Rattle.password.specs.Checks.{phraseChecked, plain, seedChecked}
 use Rattle.password.specs.Laws.{generated-good}
+use Rattle.password.specs.Bounds.{password-bound}
 use Rattle.password.specs.Password.{Algorithm, bytesOf, hash, password, generated}
 use Rattle.challenge.specs.Counts.{widthOf}
 use Rattle.challenge.specs.Challenges.{challengeOf, seedOf, challengeWritten}
@@ -32,7 +33,7 @@ use Rattle.demands.specs.Day.{Accepts, Day}
 use Rattle.demands.specs.Made.{isKept, Made}
 use Rattle.demands.specs.Keeps.{account-good}
 use Rattle.demands.specs.Owned.{turn-there}
-use Rattle.demands.specs.Replies.{accepted-account, turn-checked, reply-accepted, password-low}
+use Rattle.demands.specs.Replies.{accepted-account, turn-checked, reply-accepted}
 
 -- ---- seeds as they are kept
 
@@ -111,7 +112,7 @@ module _ (p : ℕ) (phrase buffer : List ℕ) (s : State) (m : Made s) (t : HasT
       let low : count ≤ 9999 = omega arith in
       let checked = turn-checked p s (facts .1) (facts .2) (t .front) (facts .0) unused in
       let new = password Algorithm.md5 phrase seed count in
-      let small = password-low phrase seed count in
+      let small = password-bound Algorithm.md5 phrase seed count in
       let written : take (length (challengeFor s)) (front (challengeFor s) buffer) ≡ challengeFor s =
       take-at (challengeFor s) (drop (length (challengeFor s)) buffer) (length (challengeFor s)) refl in
       let seed-read = ap seedOf written ∙ written-seed-read seed count right low ∙ keeps .0 in
@@ -128,6 +129,7 @@ module _ (p : ℕ) (phrase buffer : List ℕ) (s : State) (m : Made s) (t : HasT
             ap (λ (q : List ℕ). generated Algorithm.md5 phrase q count) seed-read
             ∙ generated-good Algorithm.md5 phrase seed count long right low;
         count-less = omega arith;
+        generated-is = refl;
         hex-accepted = reads-accepted p phrase s checked stored (hexOf new) (hex-written-read new small);
         words-accepted = reads-accepted p phrase s checked stored (wordsOf new) (words-written-read new small);
       }

@@ -6,7 +6,7 @@ use lib.ListN.{length, take}
 use Rattle.refusal.specs.declared.Reading.{Reading}
 use Rattle.refusal.specs.declared.Written.{Written}
 use Rattle.text.specs.Front.{leaves}
-use Rattle.password.specs.Password.{Algorithm, bytesOf, hash, generated}
+use Rattle.password.specs.Password.{Algorithm, bytesOf, hash, password, generated}
 use Rattle.challenge.specs.declared.reading.Challenge.{Challenge}
 use Rattle.challenge.specs.Challenges.{challengeOf, seedOf}
 use Rattle.reply.specs.Writing.{hexOf, wordsOf}
@@ -29,7 +29,8 @@ pub record Accepts (p i : ℕ) (text : List ℕ) (count new : ℕ) (s : State) :
   pub kept : accountOf i (reply p text s .state) ≡ record { id = i; seed = accountOf i s .seed; count = count; password = new }
 
 -- Challenge writes a text into the buffer; read, it gives a count and a seed; with them and the pass-phrase the generator gives a
--- password; and the reply with it, in hex or in words, is accepted. The count is the stored one less 1.
+-- password; and the reply with it, in hex or in words, is accepted. The count is the stored one less 1, and
+-- the account has then what the pass-phrase gives at it.
 pub record Day (p i : ℕ) (phrase buffer : List ℕ) (s : State) : Type 0 where
   pub written : ℕ
   pub count : ℕ
@@ -43,5 +44,6 @@ pub record Day (p i : ℕ) (phrase buffer : List ℕ) (s : State) : Type 0 where
       generated Algorithm.md5 phrase (seedOf (take written (leaves (Written.Wrote written) (challengeFor s) buffer))) count
       ≡ Reading.Password generated-as
   pub count-less : count + 1 ≡ accountOf i s .count
+  pub generated-is : generated-as ≡ password Algorithm.md5 phrase (accountOf i s .seed) count
   pub hex-accepted : Accepts p i (hexOf generated-as) count generated-as s
   pub words-accepted : Accepts p i (wordsOf generated-as) count generated-as s

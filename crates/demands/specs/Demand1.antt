@@ -9,13 +9,16 @@ use Rattle.refusal.specs.Numbers.{listingOf}
 use Rattle.md5.specs.Md5.{digestOf}
 use Rattle.password.specs.Password.{Algorithm, generated}
 use Rattle.challenge.specs.Challenges.{challengeOf, challengeWritten}
+use Rattle.cards.specs.Cards.{cardWritten}
 use Rattle.reply.specs.Reading.{readingOf}
 use Rattle.login.specs.Table.{State}
 use Rattle.login.specs.Calls.{Call, Answer, answer, after}
 use Rattle.demands.specs.Turns.{Reached}
-use Rattle.demands.specs.Listed.{isIn, listed, refusalsOf, Within, ReadWithin, ChallengeWithin, WriteWithin}
+use Rattle.demands.specs.Listed.{isIn, listed, refusalsOf, Within, ReadWithin, ChallengeWithin, WriteWithin, Given}
+use Rattle.demands.specs.Each.{Each}
+use Rattle.demands.specs.Given.{numbers-given}
 use Rattle.demands.specs.Keeps.{made}
-use Rattle.demands.specs.Refusing.{reading-within, call-within, generated-within, challenge-read-within, challenge-written-within, digest-within}
+use Rattle.demands.specs.Refusing.{reading-within, call-within, generated-within, challenge-read-within, challenge-written-within, digest-within, card-within}
 use Rattle.demands.specs.Unchanged.{refused-unchanged, word-place}
 
 -- Each refusal's number is in the list.
@@ -51,6 +54,10 @@ refusal-listed Refusal.ReplyWrongThird = refl
 refusal-listed Refusal.SeedSame = refl
 refusal-listed Refusal.LinesOutside = refl
 
+-- And each number of the list is the answer of some call.
+pub listed-given : Each Given listed
+listed-given = numbers-given
+
 -- 31 has the place of a word, 1 to 6.
 pub place-of-31 : (text : List ℕ) (place : ℕ) → readingOf text ≡ Reading.Refused (Refusal.WordUnknown place) → (1 ≤ place) × (place ≤ 6)
 place-of-31 text place e = word-place text place e
@@ -68,10 +75,15 @@ pub reply-refusals : (text : List ℕ) → ReadWithin (30 ∷ 31 ∷ 32 ∷ 33 �
 reply-refusals text = reading-within (30 ∷ 31 ∷ 32 ∷ 33 ∷ []) text refl refl refl refl
 
 pub challenge-refusals : (text : List ℕ) → ChallengeWithin (20 ∷ 21 ∷ 22 ∷ 23 ∷ 24 ∷ 25 ∷ []) (challengeOf text)
-challenge-refusals text = challenge-read-within text
+challenge-refusals text = challenge-read-within (20 ∷ 21 ∷ 22 ∷ 23 ∷ 24 ∷ 25 ∷ []) refl refl refl refl refl refl text
 
 pub challenge-writer-refusals : (seed : List ℕ) (count room : ℕ) → WriteWithin (23 ∷ 24 ∷ 13 ∷ 40 ∷ []) (challengeWritten seed count room)
 challenge-writer-refusals seed count room = challenge-written-within seed count room
+
+-- "Order: 10, 11, 20 to 25, 70, 40"
+pub card-refusals : (phrase challenge : List ℕ) (k room : ℕ)
+    → WriteWithin (10 ∷ 11 ∷ 20 ∷ 21 ∷ 22 ∷ 23 ∷ 24 ∷ 25 ∷ 70 ∷ 40 ∷ []) (cardWritten phrase challenge k room)
+card-refusals phrase challenge k room = card-within phrase challenge k room
 
 -- Each call of the table refuses with one of its own numbers, in every table that calls make, the empty one too.
 pub call-refusals : (s : State) → Reached s → (c : Call) → Within (refusalsOf c) (answer c s)

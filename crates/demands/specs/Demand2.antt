@@ -1,10 +1,10 @@
 -- The letter's second demand, for texts: what is written is read back, and six words are accepted exactly if some password is written with
 -- them. That the texts are RFC 2289's is not said here: the definitions say it, and the vectors. That every table call does just what the
 -- written steps say is the promise of each call of `login`.
-use Prim.Native.Nat.{ℕ, _+_, _^_, _≤_, _<_}
-use mathlib.Core.Path.{_≡_, _∙_}
+use Prim.Native.Nat.{ℕ, _+_, _-_, _^_, _≤_, _<_}
+use mathlib.Core.Path.{_≡_}
 use mathlib.Core.Bool.{true, false}
-use mathlib.Core.List.{List, map}
+use mathlib.Core.List.{List, [], _∷_, _++_, map}
 use mathlib.Core.Logic.{_↔_}
 use lib.ListN.{length, take}
 use Rattle.refusal.specs.declared.Checked.{Checked}
@@ -17,13 +17,15 @@ use Rattle.password.specs.Checks.{phraseChecked, seedChecked}
 use Rattle.password.specs.Password.{Algorithm, password, generated}
 use Rattle.password.specs.Laws.{generated-good}
 use Rattle.challenge.specs.declared.reading.Challenge.{Challenge}
-use Rattle.challenge.specs.Counts.{widthOf}
+use Rattle.challenge.specs.Counts.{widthOf, decimalOf}
 use Rattle.challenge.specs.Challenges.{challengeOf, seedOf, challengeText}
 use Rattle.challenge.specs.ReadBack.{written-read, written-seed-read}
 use Rattle.reply.specs.Writing.{hexOf, sixWordsOf, wordsOf}
 use Rattle.reply.specs.Reading.{sixWords, upperText, readingOf}
 use Rattle.reply.specs.Laws as Laws
-use Rattle.demands.specs.Replies.{password-low}
+use Rattle.cards.specs.Cards.{cardText, countOf, cardChecked, cardOf}
+use Rattle.cards.specs.Laws as CardLaws
+use Rattle.password.specs.Bounds.{password-bound}
 
 -- "what we write we read back as the same password": the hex that was written at the front of a buffer, and the words.
 pub hex-read-back : (p : ℕ) → p < 2 ^ 64 → (b b′ : List ℕ) (n : ℕ) → Writes (hexOf p) b b′ (Written.Wrote n)
@@ -36,7 +38,7 @@ words-read-back p h b b′ n w = Laws.words-read-back p b b′ n h w
 
 -- Every password that the generator gives is such a number.
 pub generated-fits : (phrase seed : List ℕ) (count : ℕ) → password Algorithm.md5 phrase seed count < 2 ^ 64
-generated-fits phrase seed count = password-low phrase seed count
+generated-fits phrase seed count = password-bound Algorithm.md5 phrase seed count
 
 -- "six words of one to four letters, in either case, in a reply of at most 128 bytes, are accepted exactly if some password is written with
 -- them", and then as that password.
@@ -66,3 +68,17 @@ challenge-read-back seed count good low = (written-read seed count good low, wri
 pub generator-gives : (phrase seed : List ℕ) (count : ℕ) → phraseChecked phrase ≡ Checked.Good → seedChecked seed ≡ Checked.Good → count ≤ 9999
     → generated Algorithm.md5 phrase seed count ≡ Reading.Password (password Algorithm.md5 phrase seed count)
 generator-gives phrase seed count long good low = generated-good Algorithm.md5 phrase seed count long good low
+
+-- A card's lines: what stands on each, before and after it, and that its hex and its words read as the password that the generator gives at
+-- that count.
+pub card-lines : (phrase challenge : List ℕ) (k : ℕ) → cardChecked phrase challenge k ≡ Checked.Good → (i : ℕ) → i < k →
+    let n = countOf (challengeOf challenge) in
+    let passwordAt = password Algorithm.md5 phrase (seedOf challenge) in
+    let p = passwordAt (n - i) in
+    (cardOf phrase challenge k
+    ≡ cardText passwordAt n i
+    ++ (decimalOf (n - i) ++ 32 ∷ [] ++ hexOf p ++ 32 ∷ [] ++ wordsOf p ++ 10 ∷ [])
+    ++ cardText passwordAt (n - i - 1) (k - i - 1))
+    × (readingOf (hexOf p) ≡ generated Algorithm.md5 phrase (seedOf challenge) (n - i))
+    × (readingOf (wordsOf p) ≡ generated Algorithm.md5 phrase (seedOf challenge) (n - i))
+card-lines phrase challenge k e i h = CardLaws.card-lines phrase challenge k e i h

@@ -30,9 +30,9 @@ turn-begins s r p i e later q t =
 
 -- The same where every later call is quiet.
 pub turn-begins-quiet : (s : State) → Reached s → (p i : ℕ) → join p i s .answer ≡ Checked.Good
-    → (later : List Call) → every (quiet p i) later ≡ true → 180 ≤ ticks later
-    → TurnBegins p i 180 later (join p i s .state)
-turn-begins-quiet s r p i e later q t = turn-begins s r p i e later (all-meanwhile p i later (join p i s .state) q) t
+    → (calls : List Call) → every (quiet p i) calls ≡ true → 180 ≤ ticks calls
+    → TurnBegins p i 180 calls (join p i s .state)
+turn-begins-quiet s r p i e calls q t = turn-begins s r p i e calls (all-meanwhile p i calls (join p i s .state) q) t
 
 -- "During that turn only its own calls change the account's count or stored password, removal aside": a call that is not the port's
 -- own, or is Challenge, and does not remove the account leaves it as it is, its seed too.

@@ -4,17 +4,18 @@ use mathlib.Core.Path.{_≡_, refl}
 use mathlib.Core.List.{List, [], _∷_, _++_, map, flatten}
 use Rattle.refusal.specs.declared.Refusal.{Refusal}
 use Rattle.refusal.specs.declared.Reading.{Reading}
-use Rattle.text.specs.Tests.{every, same}
+use Rattle.text.specs.Tests.{every}
 use Rattle.text.specs.Scan.{runOf, parted, unspaced}
 use Rattle.text.specs.Digits as Digits
 use Rattle.text.specs.Quoted.{codes}
 use Rattle.password.specs.Checks.{plain}
 use Rattle.dictionary.specs.Words.{wordsIn, lines, words}
-use Rattle.dictionary.specs.Dictionary.{standsFrom, placeOf as wordPlace}
+use Rattle.dictionary.specs.Dictionary.{standsFrom, placeOf}
 use Rattle.sixwords.specs.Places.{pairs, pairSum, whole, cut, placesOf, joined, allPlaces, numberOf}
 use Rattle.challenge.specs.declared.reading.Challenge.{Challenge}
 use Rattle.challenge.specs.Counts.{isCount}
 use Rattle.challenge.specs.Challenges.{opening, algorithm, tokenAt, nextAt, countAt, seedAt, challengeOf, seedOf}
+use Rattle.text.specs.Tests.{same}
 use Rattle.reply.specs.Reading.{isWord, sixWords, foundAfter, sixteenDigits, hexReading, readingOf}
 
 -- What an example asks for: the places of a number, its pair sum, what a challenge says, or a reply.
@@ -69,5 +70,5 @@ examples =
     (replyFor (codes "85C4 3EE0 3857 765"), reply (Reading.Refused Refusal.ReplyUnread)) ∷ []
 
 pub examples-hold : map (λ (e : Asked × Said). said (e .0)) examples ≡ map (λ (e : Asked × Said). e .1) examples
-unfolding codes runOf Digits.numberAfter every plain isCount opening algorithm same tokenAt nextAt countAt seedAt challengeOf readingOf sixWords isWord foundAfter sixteenDigits hexReading parted unspaced wordsIn lines words flatten standsFrom wordPlace pairs pairSum whole cut placesOf joined allPlaces numberOf
+unfolding codes runOf Digits.numberAfter every plain isCount opening algorithm same tokenAt nextAt countAt seedAt challengeOf readingOf sixWords isWord foundAfter sixteenDigits hexReading parted unspaced wordsIn lines words flatten standsFrom placeOf pairs pairSum whole cut placesOf joined allPlaces numberOf
 examples-hold = refl

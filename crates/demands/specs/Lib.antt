@@ -1,5 +1,5 @@
--- The letter's demands as theorems. A reader needs the demands (Demand3, OneStep, Tables), their words (Turns, Day, Made) and the
--- definitions of the other crates; the rest is how they are proved.
+-- The letter's demands as theorems: Demand1, Demand2, Demand3, with Tight, OneStep, Tables and Examples. Their words are in Listed, Turns, Day,
+-- Made and Each; the rest is how they are proved.
 pub mod Turns
 pub mod Day
 pub mod Each
@@ -20,10 +20,10 @@ pub mod Answering
 pub mod Listed
 pub mod Refusing
 pub mod Unchanged
+pub mod Given
 pub mod Demand1
 pub mod Demand2
 pub mod Examples
-pub mod Given
 pub mod Tight
 pub mod Tables
 pub mod OneStep

@@ -8,7 +8,15 @@ use Rattle.refusal.specs.declared.Reading.{Reading}
 use Rattle.refusal.specs.declared.Written.{Written}
 use Rattle.refusal.specs.Numbers.{listingOf}
 use Rattle.challenge.specs.declared.reading.Challenge.{Challenge}
-use Rattle.login.specs.Calls.{Call, Answer, writtenAnswer}
+use Rattle.text.specs.Front.{writtenOf}
+use Rattle.md5.specs.Md5.{digestOf}
+use Rattle.password.specs.Password.{Algorithm, generated}
+use Rattle.challenge.specs.Challenges.{challengeOf}
+use Rattle.reply.specs.Reading.{readingOf}
+use Rattle.reply.specs.Writing.{hexOf}
+use Rattle.cards.specs.Cards.{cardWritten}
+use Rattle.login.specs.Table.{fresh}
+use Rattle.login.specs.Calls.{Call, Answer, writtenAnswer, answer, numbers, run}
 
 -- One of the numbers is n.
 abbrev pub isIn : ℕ → List ℕ → Bool
@@ -51,3 +59,32 @@ ChallengeWithin numbers (Challenge.Refused why) = isIn (listingOf why .0) number
 
 abbrev pub WriteWithin : List ℕ → Written → Type 0
 WriteWithin numbers written = Within numbers (writtenAnswer written)
+
+-- ---- the number of an answer, 0 where it is no refusal
+
+abbrev pub readNumber : Reading → ℕ
+readNumber (Reading.Password password) = 0
+readNumber (Reading.Refused why) = listingOf why .0
+
+abbrev pub writtenNumber : Written → ℕ
+writtenNumber (Written.Wrote n) = 0
+writtenNumber (Written.Refused why) = listingOf why .0
+
+abbrev pub challengeNumber : Challenge → ℕ
+challengeNumber (Challenge.Read count start len used) = 0
+challengeNumber (Challenge.Refused why) = listingOf why .0
+
+-- The number that the call answers after the others, from the fresh table.
+unfoldable pub callNumber : List Call → Call → ℕ
+callNumber before c = numbers (answer c (run before fresh)) .0
+
+-- The number n is the answer of some call: of the generator, the digest, the challenge reader, the reply's reader, the hex writer, the
+-- card writer, or the table.
+pub data Given (n : ℕ) : Type 0 where
+  generator : (phrase seed : List ℕ) (count : ℕ) → readNumber (generated Algorithm.md5 phrase seed count) ≡ n → Given n
+  digest : (m : List ℕ) (room : ℕ) → writtenNumber (digestOf m room) ≡ n → Given n
+  challenge : (text : List ℕ) → challengeNumber (challengeOf text) ≡ n → Given n
+  reply : (text : List ℕ) → readNumber (readingOf text) ≡ n → Given n
+  hex : (p room : ℕ) → writtenNumber (writtenOf room (hexOf p)) ≡ n → Given n
+  card : (phrase text : List ℕ) (k room : ℕ) → writtenNumber (cardWritten phrase text k room) ≡ n → Given n
+  call : (before : List Call) (c : Call) → callNumber before c ≡ n → Given n

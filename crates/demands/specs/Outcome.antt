@@ -26,7 +26,8 @@ use Rattle.login.specs.Calls.{Call, after}
 use Rattle.demands.specs.Turns.{tickOf, quiet}
 use Rattle.demands.specs.Each.{Each}
 use Rattle.demands.specs.Made.{isKept, AccountGood}
-use Rattle.demands.specs.Good.{must-good, all-good}
+use Rattle.challenge.specs.Laws.{must-good}
+use Rattle.demands.specs.Good.{all-good}
 use Rattle.demands.specs.Rooms.{there-parts, holder-id}
 
 -- What the checks of Challenge, Reply and Renew establish.

@@ -112,7 +112,8 @@ still-or-gone p i c w (Moved.ticked z) q h = go (w .places) (w .turn) h
         (λ e. inl h)
 
 -- A port that is out of the line stays out while it does not join.
-stays-out : (p i : ℕ) (c : Call) (w : Waiting) {w′ : Waiting} → Moved c w w′ → quiet p i c ≡ true → standsIn p w ≡ false → standsIn p w′ ≡ false
+stays-out : (p i : ℕ) (c : Call) (w : Waiting) {w′ : Waiting} → Moved c w w′ → quiet p i c ≡ true
+    → standsIn p w ≡ false → standsIn p w′ ≡ false
 unfolding without Line.joined Line.ticked
 stays-out p i c w (Moved.stood z) q h = h
 stays-out p i c w (Moved.gone z leaves spares) q h = none-others (ofPort p) leaves (w .places) h
@@ -143,7 +144,9 @@ pub turn-keeps : (p i : ℕ) (calls : List Call) (s : State) → Made s → HasT
     → accountOf i (run calls s) ≡ accountOf i s
 unfolding every run
 turn-keeps p i [] s m t q u = refl
-turn-keeps p i (c ∷ cs) s m t q u = go (still-or-gone p i c (s .line) (moved c s (outcome c s)) (halves .0) (has-leads p i s t)) (turn-keeps p i cs (after c s) made′)
+turn-keeps p i (c ∷ cs) s m t q u =
+    go (still-or-gone p i c (s .line) (moved c s (outcome c s)) (halves .0) (has-leads p i s t))
+    (turn-keeps p i cs (after c s) made′)
   where
     halves : (quiet p i c ≡ true) × (every (quiet p i) cs ≡ true)
     halves = both (quiet p i c) (every (quiet p i) cs) q
@@ -152,7 +155,8 @@ turn-keeps p i (c ∷ cs) s m t q u = go (still-or-gone p i c (s .line) (moved c
     made′ = made-after c s m
 
     go : (leads (isPlace p i) (after c s .line .places) ≡ true) ⊎ (standsIn p (after c s .line) ≡ false)
-        → (HasTurn p i (after c s) → every (quiet p i) cs ≡ true → HasTurn p i (run cs (after c s)) → accountOf i (run cs (after c s)) ≡ accountOf i (after c s))
+        → (HasTurn p i (after c s) → every (quiet p i) cs ≡ true → HasTurn p i (run cs (after c s))
+        → accountOf i (run cs (after c s)) ≡ accountOf i (after c s))
         → accountOf i (run cs (after c s)) ≡ accountOf i s
     go (inl e) ih = ih (leads-turn p i (after c s) e) (halves .1) u ∙ call-keeps p i s m t c (halves .0)
     go (inr e) ih =

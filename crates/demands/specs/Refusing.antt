@@ -14,19 +14,21 @@ use Rattle.refusal.specs.declared.Written.{Written}
 use Rattle.refusal.specs.Numbers.{listingOf}
 use Rattle.refusal.specs.Checks.{unless}
 use Rattle.text.specs.Kinds.{lowerOf}
-use Rattle.text.specs.Tests.{either, same}
+use Rattle.text.specs.Tests.{either}
 use Rattle.text.specs.Scan.{tokens, unspaced}
 use Rattle.password.specs.Checks.{plain, seedChecked}
 use Rattle.password.specs.Password.{Algorithm, bytesOf, hash, password, generated}
 use Rattle.dictionary.specs.declared.Found.{Found}
+use Rattle.dictionary.specs.Dictionary.{placeOf}
 use Rattle.sixwords.specs.declared.Number.{Number}
 use Rattle.sixwords.specs.Places.{numberOf as placesNumber}
 use Rattle.md5.specs.Md5.{md5, digestOf}
 use Rattle.challenge.specs.declared.reading.Challenge.{Challenge}
 use Rattle.challenge.specs.Counts.{isCount}
 use Rattle.challenge.specs.Challenges.{opening, algorithm, tokenAt, endOf, countAt, seedAt, terminated, must, step1, step2, step3, step4, step5, found, challengeOf, challengeText, challengeWritten}
-use Rattle.dictionary.specs.Dictionary.{placeOf}
+use Rattle.text.specs.Tests.{same}
 use Rattle.reply.specs.Reading.{sixWords, upperText, summed, foundAfter, sixteenDigits, hexReading, readingOf}
+use Rattle.cards.specs.Cards.{challengeChecked, countOf, linesChecked, cardChecked, cardOf, cardWritten}
 use Rattle.line.specs.Line.{standsIn}
 use Rattle.login.specs.declared.table.Replied.{Replied}
 use Rattle.login.specs.Table.{Room, State, holds, isThere, accountOf, portOf, hasTurn, turnId}
@@ -38,7 +40,7 @@ use Rattle.demands.specs.Turns.{HasTurn}
 use Rattle.demands.specs.Each.{Each}
 use Rattle.demands.specs.Listed.{isIn, refusalsOf, Within, ReadWithin, ChallengeWithin, WriteWithin}
 use Rattle.demands.specs.Made.{Made}
-use Rattle.demands.specs.Good.{must-good}
+use Rattle.challenge.specs.Laws.{must-good}
 use Rattle.demands.specs.Outcome.{turn-good}
 use Rattle.demands.specs.Owned.{turn-there}
 use Rattle.demands.specs.Keeps.{account-good}
@@ -149,8 +151,19 @@ unfolding Steps.enrol enrolChecked
 enrol-within id count seed password s =
     let ns = refusalsOf (Call.Enrol id count seed password) in
     settled-within ns s _ (inOrder (idGiven id ∷ countWithin count ∷ seedChecked seed ∷ idNew id s ∷ roomLeft s ∷ []))
-    (order-within ns (idGiven id ∷ countWithin count ∷ seedChecked seed ∷ idNew id s ∷ roomLeft s ∷ [])
-    (must-within ns (not (eqb id 0)) Refusal.IdZero refl, (must-within ns (leb 2 count && leb count 9999) Refusal.CountOutside refl, (seed-within ns seed refl refl, (must-within ns (not (isThere id s)) Refusal.IdTaken refl, (must-within ns (holds 0 (s .rooms)) Refusal.TableFull refl, tt))))))
+    (order-within ns (idGiven id ∷ countWithin count ∷ seedChecked seed ∷ idNew id s ∷ roomLeft s ∷ []) (
+      must-within ns (not (eqb id 0)) Refusal.IdZero refl,
+      (
+        must-within ns (leb 2 count && leb count 9999) Refusal.CountOutside refl,
+        (
+          seed-within ns seed refl refl,
+          (
+            must-within ns (not (isThere id s)) Refusal.IdTaken refl,
+            (must-within ns (holds 0 (s .rooms)) Refusal.TableFull refl, tt),
+          ),
+        ),
+      ),
+    ))
 
 remove-within : (id : ℕ) (s : State) → Within (refusalsOf (Call.Remove id)) (answer (Call.Remove id) s)
 unfolding Steps.remove
@@ -163,15 +176,27 @@ unfolding Steps.join joinChecked
 join-within port id s =
     let ns = refusalsOf (Call.Join port id) in
     settled-within ns s _ (inOrder (portKnown port ∷ accountThere id s ∷ notInLine port s ∷ portOpen port s ∷ notUsedUp id s ∷ []))
-    (order-within ns (portKnown port ∷ accountThere id s ∷ notInLine port s ∷ portOpen port s ∷ notUsedUp id s ∷ [])
-    (must-within ns (leb port 3) Refusal.PortUnknown refl, (must-within ns (isThere id s) Refusal.AccountMissing refl, (must-within ns (not (standsIn port (s .line))) Refusal.PortInLine refl, (must-within ns (eqb (portOf port s .shut) 0) Refusal.PortShut refl, (must-within ns (ltb 1 (accountOf id s .count)) Refusal.AccountUsedUp refl, tt))))))
+    (order-within ns (portKnown port ∷ accountThere id s ∷ notInLine port s ∷ portOpen port s ∷ notUsedUp id s ∷ []) (
+      must-within ns (leb port 3) Refusal.PortUnknown refl,
+      (
+        must-within ns (isThere id s) Refusal.AccountMissing refl,
+        (
+          must-within ns (not (standsIn port (s .line))) Refusal.PortInLine refl,
+          (
+            must-within ns (eqb (portOf port s .shut) 0) Refusal.PortShut refl,
+            (must-within ns (ltb 1 (accountOf id s .count)) Refusal.AccountUsedUp refl, tt),
+          ),
+        ),
+      ),
+    ))
 
 leave-within : (port : ℕ) (s : State) → Within (refusalsOf (Call.Leave port)) (answer (Call.Leave port) s)
 unfolding Steps.leave leaveChecked
 leave-within port s =
     let ns = refusalsOf (Call.Leave port) in
     settled-within ns s _ (inOrder (portKnown port ∷ inLine port s ∷ []))
-    (order-within ns (portKnown port ∷ inLine port s ∷ []) (must-within ns (leb port 3) Refusal.PortUnknown refl, (must-within ns (standsIn port (s .line)) Refusal.PortNotInLine refl, tt)))
+    (order-within ns (portKnown port ∷ inLine port s ∷ [])
+    (must-within ns (leb port 3) Refusal.PortUnknown refl, (must-within ns (standsIn port (s .line)) Refusal.PortNotInLine refl, tt)))
 
 -- The challenge writer's own checks, 23, 24 and 13, find nothing wrong with a good account.
 challenge-within : (port room : ℕ) (s : State) → Made s → Within (refusalsOf (Call.Challenge port room)) (answer (Call.Challenge port room) s)
@@ -211,8 +236,16 @@ unfolding Steps.renew Steps.renewRead renewChecked
 renew-within port count seed new text s m =
     let ns = refusalsOf (Call.Renew port count seed new text) in
     replied-within ns s (inOrder (turnChecked port s ∷ countWithin count ∷ seedChecked seed ∷ seedNew seed (turnId s) s ∷ [])) _
-    (order-within ns (turnChecked port s ∷ countWithin count ∷ seedChecked seed ∷ seedNew seed (turnId s) s ∷ [])
-    (turn-within ns port s m refl refl refl refl, (must-within ns (leb 2 count && leb count 9999) Refusal.CountOutside refl, (seed-within ns seed refl refl, (must-within ns (not (same (map lowerOf seed) (accountOf (turnId s) s .seed))) Refusal.SeedSame refl, tt)))))
+    (order-within ns (turnChecked port s ∷ countWithin count ∷ seedChecked seed ∷ seedNew seed (turnId s) s ∷ []) (
+      turn-within ns port s m refl refl refl refl,
+      (
+        must-within ns (leb 2 count && leb count 9999) Refusal.CountOutside refl,
+        (
+          seed-within ns seed refl refl,
+          (must-within ns (not (same (map lowerOf seed) (accountOf (turnId s) s .seed))) Refusal.SeedSame refl, tt),
+        ),
+      ),
+    ))
     (read-within ns s (readingOf text) _ (reading-within ns text refl refl refl refl)
     (λ w. offered-within ns port w (newRoom (accountOf (turnId s) s .id) count seed new) s refl refl))
 
@@ -270,18 +303,16 @@ challenge-written-within seed count room =
     go Checked.Good h false true = tt
     go Checked.Good h false false = refl
 
-pub challenge-read-within : (text : List ℕ) → ChallengeWithin (20 ∷ 21 ∷ 22 ∷ 23 ∷ 24 ∷ 25 ∷ []) (challengeOf text)
+pub challenge-read-within : (ns : List ℕ) → isIn 20 ns ≡ true → isIn 21 ns ≡ true → isIn 22 ns ≡ true → isIn 23 ns ≡ true → isIn 24 ns ≡ true
+    → isIn 25 ns ≡ true → (text : List ℕ) → ChallengeWithin ns (challengeOf text)
 unfolding challengeOf
-challenge-read-within text =
-    go (step1 text) (must-within ns (same (take 4 text) opening) Refusal.OpeningWrong refl)
-    (step2 text) (must-within ns (same (tokenAt text 4) algorithm) Refusal.AlgorithmUnknown refl)
-    (step3 text) (must-within ns (isCount (tokenAt text (countAt text))) Refusal.CountUnread refl)
-    (step4 text) (seed-within ns (tokenAt text (seedAt text)) refl refl)
-    (step5 text) (must-within ns (terminated (drop (endOf text (seedAt text)) text)) Refusal.SeedUnended refl)
+challenge-read-within ns h₀ h₁ h₂ h₃ h₄ h₅ text =
+    go (step1 text) (must-within ns (same (take 4 text) opening) Refusal.OpeningWrong h₀)
+    (step2 text) (must-within ns (same (tokenAt text 4) algorithm) Refusal.AlgorithmUnknown h₁)
+    (step3 text) (must-within ns (isCount (tokenAt text (countAt text))) Refusal.CountUnread h₂)
+    (step4 text) (seed-within ns (tokenAt text (seedAt text)) h₃ h₄)
+    (step5 text) (must-within ns (terminated (drop (endOf text (seedAt text)) text)) Refusal.SeedUnended h₅)
   where
-    ns : List ℕ
-    ns = 20 ∷ 21 ∷ 22 ∷ 23 ∷ 24 ∷ 25 ∷ []
-
     next : (k : Checked) (c : Challenge) → CheckWithin ns k → ChallengeWithin ns c → ChallengeWithin ns (unless Challenge.Refused k c)
     next Checked.Good c h l = l
     next (Checked.Refused why) c h l = h
@@ -295,3 +326,33 @@ challenge-read-within text =
         (unless Challenge.Refused d
         (unless Challenge.Refused e (found text))))))
     go a i b j c k d l e m = next a _ i (next b _ j (next c _ k (next d _ l (next e (found text) m tt))))
+
+-- ---- the card
+
+abbrev pub cardNumbers : List ℕ
+cardNumbers = 10 ∷ 11 ∷ 20 ∷ 21 ∷ 22 ∷ 23 ∷ 24 ∷ 25 ∷ 70 ∷ 40 ∷ []
+
+pub card-within : (phrase challenge : List ℕ) (k room : ℕ) → WriteWithin cardNumbers (cardWritten phrase challenge k room)
+unfolding cardWritten cardChecked
+card-within phrase challenge k room =
+    go (ltb (length phrase) 10) (ltb 63 (length phrase)) (challengeOf challenge)
+    (challenge-read-within cardNumbers refl refl refl refl refl refl challenge) (leb (length (cardOf phrase challenge k)) room)
+  where
+    go : (a b : Bool) (c : Challenge) → ChallengeWithin cardNumbers c → (f : Bool)
+        → WriteWithin cardNumbers
+        (unless Written.Refused
+        (unless Checked.Refused (cond a (Checked.Refused Refusal.PhraseShort) (cond b (Checked.Refused Refusal.PhraseLong) Checked.Good))
+        (unless Checked.Refused (challengeChecked c) (linesChecked k (countOf c))))
+        (cond f (Written.Wrote (length (cardOf phrase challenge k))) (Written.Refused Refusal.BufferShort)))
+    go true b c h f = refl
+    go false true c h f = refl
+    go false false (Challenge.Refused why) h f = h
+    go false false (Challenge.Read n s l u) h f = lines (leb 1 k && leb k 99 && leb k n) f
+      where
+        lines : (t f : Bool)
+            → WriteWithin cardNumbers
+            (unless Written.Refused (must t Refusal.LinesOutside)
+            (cond f (Written.Wrote (length (cardOf phrase challenge k))) (Written.Refused Refusal.BufferShort)))
+        lines true true = tt
+        lines true false = refl
+        lines false f = refl

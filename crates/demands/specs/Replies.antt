@@ -1,27 +1,23 @@
 -- What an accepted reply does, and which replies are accepted.
-use Prim.Native.Nat.{ℕ, zero, suc, _+_, _-_, _^_, _≤_, _<_}
+use Prim.Native.Nat.{ℕ, _+_, _-_, _≤_, _<_}
 use native.Mathlib.Omega.{arith}
 use mathlib.Core.Path.{_≡_, refl, sym, ap, _∙_, subst}
 use mathlib.Core.Bool.{Bool, true, false, cond}
-use mathlib.Core.List.{List, [], _∷_, _++_}
+use mathlib.Core.List.{List}
 use borrow.Author.Tests.{eqb-true, eq-eqb, le-leb, lt-ltb}
-use lib.Bits.{bitXor, xor-lt}
 use lib.Dec.{eqb}
-use lib.ListN.{getD}
 use Rattle.refusal.specs.declared.Refusal.{Refusal}
 use Rattle.refusal.specs.declared.Checked.{Checked}
 use Rattle.refusal.specs.declared.Reading.{Reading}
 use Rattle.refusal.specs.Checks.{unless}
-use Rattle.block.specs.Lists.{upTo}
 use Rattle.md5.specs.Md5 as Md5
-use Rattle.password.specs.Password.{Algorithm, fold, numberAfter, numberOf, bytesOf, hash, password}
+use Rattle.password.specs.Password.{Algorithm, bytesOf, hash}
 use Rattle.reply.specs.Reading.{readingOf}
 use Rattle.line.specs.Line.{standsIn}
 use Rattle.login.specs.declared.table.Replied.{Replied}
 use Rattle.login.specs.Table.{Room, State, isThere, accountOf, hasTurn, turnId}
 use Rattle.login.specs.Steps as Steps
 use Rattle.login.specs.Steps.{replyRefused, turnChecked, lowered, offered, read, replyRead, reply}
-use Rattle.demands.specs.Each.{Each, each-get, each-append}
 use Rattle.demands.specs.Day.{SteppedDown}
 use Rattle.demands.specs.Rooms.{there-parts, same-changed}
 use Rattle.demands.specs.Outcome.{TurnGood, turn-good, turn-holder}
@@ -93,39 +89,3 @@ pub reply-accepted : (p w : ℕ) (text : List ℕ) (s : State) → turnChecked p
     → reply p text s ≡ Steps.accepted p (lowered (accountOf (turnId s) s) w) s
 unfolding reply replyRead offered
 reply-accepted p w text s k r e = rw (k, r, eq-eqb (hash Algorithm.md5 (bytesOf w)) (accountOf (turnId s) s .password) e)
-
--- ---- a password is a number of 64 bits
-
-Byte : ℕ → Type 0
-Byte b = b < 256
-
-bytes4-low : (x : ℕ) → Each Byte (Md5.bytes4 x)
-unfolding Byte
-bytes4-low x = (omega arith, (omega arith, (omega arith, (omega arith, tt))))
-
-digest-low : (m : List ℕ) → Each Byte (Md5.md5 m)
-unfolding Md5.md5
-digest-low m =
-    each-append Byte (Md5.bytes4 _ ++ Md5.bytes4 _ ++ Md5.bytes4 _) (Md5.bytes4 _)
-    (each-append Byte (Md5.bytes4 _ ++ Md5.bytes4 _) (Md5.bytes4 _)
-    (each-append Byte (Md5.bytes4 _) (Md5.bytes4 _) (bytes4-low _) (bytes4-low _)) (bytes4-low _)) (bytes4-low _)
-
-eight-low : (b₀ b₁ b₂ b₃ b₄ b₅ b₆ b₇ : ℕ) → b₀ < 256 → b₁ < 256 → b₂ < 256 → b₃ < 256 → b₄ < 256 → b₅ < 256 → b₆ < 256 → b₇ < 256
-    → numberOf (b₀ ∷ b₁ ∷ b₂ ∷ b₃ ∷ b₄ ∷ b₅ ∷ b₆ ∷ b₇ ∷ []) < 2 ^ 64
-unfolding numberAfter
-eight-low b₀ b₁ b₂ b₃ b₄ b₅ b₆ b₇ h₀ h₁ h₂ h₃ h₄ h₅ h₆ h₇ = omega arith
-
-pub hash-low : (m : List ℕ) → hash Algorithm.md5 m < 2 ^ 64
-unfolding hash fold upTo
-hash-low m = eight-low _ _ _ _ _ _ _ _ (low 0) (low 1) (low 2) (low 3) (low 4) (low 5) (low 6) (low 7)
-  where
-    byte : (i : ℕ) → getD (Md5.md5 m) i 0 < 256
-    byte i = unfold Byte in each-get Byte (Md5.md5 m) i 0 (digest-low m) (omega arith)
-
-    low : (i : ℕ) → bitXor (getD (Md5.md5 m) i 0) (getD (Md5.md5 m) (i + 8) 0) < 256
-    low i = xor-lt 8 (getD (Md5.md5 m) i 0) (getD (Md5.md5 m) (i + 8) 0) (byte i) (byte (i + 8))
-
-pub password-low : (phrase seed : List ℕ) (n : ℕ) → password Algorithm.md5 phrase seed n < 2 ^ 64
-unfolding password
-password-low phrase seed zero = hash-low _
-password-low phrase seed (suc n) = hash-low _

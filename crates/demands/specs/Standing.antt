@@ -71,11 +71,14 @@ standing-without gone w h =
     }
   where
     each-kept : (l : List Place) → Each (λ (place : Place). place .port ≤ 3) l → Each (λ (place : Place). place .port ≤ 3) (others gone l)
-    each-kept l k = each-weaker (λ (place : Place). (place .port ≤ 3) × (gone place ≡ false)) (λ (place : Place). place .port ≤ 3) (λ place g. g .0) (others gone l) (each-others (λ (place : Place). place .port ≤ 3) gone l k)
+    each-kept l k =
+        each-weaker (λ (place : Place). (place .port ≤ 3) × (gone place ≡ false)) (λ (place : Place). place .port ≤ 3)
+        (λ place g. g .0) (others gone l) (each-others (λ (place : Place). place .port ≤ 3) gone l k)
 
 -- ---- one that comes
 
-pub none-append : (test : Place → Bool) (l : List Place) (place : Place) → some test l ≡ false → test place ≡ false → some test (l ++ place ∷ []) ≡ false
+pub none-append : (test : Place → Bool) (l : List Place) (place : Place) → some test l ≡ false → test place ≡ false
+    → some test (l ++ place ∷ []) ≡ false
 unfolding some
 none-append test [] place h k = rw k
 none-append test (x ∷ xs) place h k = go (test x) (some test xs) refl refl h (λ e. none-append test xs place e k)

@@ -45,7 +45,8 @@ front-ticks (suc n) (c ∷ early) late e =
     let first : c ≡ Call.Tick = cc in
     let rest : replicate n Call.Tick ≡ early ++ late = cc in
     let tail = front-ticks n early late rest in
-    let more : tickOf c + ticks early ≡ suc (ticks early) = ap (λ (d : Call). tickOf d + ticks early) first ∙ add-comm 1 (ticks early) ∙ add-one (ticks early) in
+    let more : tickOf c + ticks early ≡ suc (ticks early) =
+    ap (λ (d : Call). tickOf d + ticks early) first ∙ add-comm 1 (ticks early) ∙ add-one (ticks early) in
     rw more (rw first (ap (λ (l : List Call). Call.Tick ∷ l) tail))
 
 too-soon : (n : ℕ) → n ≤ 179 → hasTurnAfter n ≡ true → ⊥

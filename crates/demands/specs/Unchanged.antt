@@ -17,9 +17,9 @@ use Rattle.text.specs.Digits.{numberOf}
 use Rattle.text.specs.Scan.{tokens, unspaced}
 use Rattle.password.specs.Password.{Algorithm, bytesOf, hash}
 use Rattle.dictionary.specs.declared.Found.{Found}
+use Rattle.dictionary.specs.Dictionary.{placeOf}
 use Rattle.sixwords.specs.declared.Number.{Number}
 use Rattle.sixwords.specs.Places.{numberOf as placesNumber}
-use Rattle.dictionary.specs.Dictionary.{placeOf}
 use Rattle.reply.specs.Reading.{isWord, sixWords, upperText, summed, foundAfter, sixteenDigits, hexReading, readingOf}
 use Rattle.login.specs.declared.table.Replied.{Replied}
 use Rattle.login.specs.Table.{Room, State, accountOf, portOf, turnId}

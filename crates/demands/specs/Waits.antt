@@ -33,7 +33,8 @@ pub record Waits (p i : ℕ) (w : Waiting) (most : ℕ) : Type 0 where
   pub most-wait : waitOf (isPlace p i) (w .places) (w .turn) ≤ most
 
 -- A place that is that port's for that account is this record.
-pub place-is : (p i : ℕ) (gone : Place → Bool) → gone (record { port = p; id = i }) ≡ false → (x : Place) → isPlace p i x ≡ true → gone x ≡ false
+pub place-is : (p i : ℕ) (gone : Place → Bool) → gone (record { port = p; id = i }) ≡ false
+    → (x : Place) → isPlace p i x ≡ true → gone x ≡ false
 place-is p i gone e x h =
     let halves = both (ofPort p x) (ofAccount i x) h in
     let same : x ≡ record { port = p; id = i } = λ j. record { port = eqb-true (x .port) p (halves .0) j; id = eqb-true (x .id) i (halves .1) j } in
