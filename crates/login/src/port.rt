@@ -53,3 +53,26 @@ pub fn after_tick(port: Port) -> Port
     }
     port
 }
+
+// The same where a port's own record stands: it is lent and brought up to date.
+
+pub fn tick(port: &mut Port)
+    ensures { λ _. ⌜ now (port .exit) ≡ cooled (now (port .entry)) ⌝ }
+{
+    *port = after_tick(*port);
+}
+
+pub fn right(port: &mut Port)
+    ensures { λ _. ⌜ now (port .exit) ≡ rightly (now (port .entry)) ⌝ }
+{
+    *port = after_right(*port);
+}
+
+// A wrong reply, with its answer: 61, or 62 for the third in a row.
+pub fn wrong(port: &mut Port) -> Refusal
+    ensures { λ r. ⌜ (r ≡ wrongAnswer (now (port .entry))) × (now (port .exit) ≡ wrongly (now (port .entry))) ⌝ }
+{
+    let before = *port;
+    *port = after_wrong(before);
+    wrong_answer(before)
+}
