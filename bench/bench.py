@@ -3,7 +3,8 @@
 Builds bench.c over the archive, runs it once and prints what took how long.
 Its rounds time one thing after the other, so a ratio is taken within each
 round; the tables have the median time and the median ratio. After that come
-the sizes. With an argument it takes that archive and builds none.
+the calls of the login table, which the program `meter` repeats, and the sizes.
+With an argument it takes that archive and builds none.
 """
 import collections
 import pathlib
@@ -13,6 +14,7 @@ import sys
 sys.dont_write_bytecode = True
 sys.path.insert(0, str(pathlib.Path(__file__).resolve().parent.parent / "host"))
 
+import calls  # noqa: E402
 import harness  # noqa: E402
 import sizes  # noqa: E402
 
@@ -119,6 +121,8 @@ def main(arguments):
         compared_table(found)
         print()
         growth_table(found)
+        print()
+        calls.table()
         print()
         sizes.table(library)
     except harness.Failed as failure:

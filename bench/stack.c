@@ -86,6 +86,31 @@ static void call_write_hex(void)
     }
 }
 
+/* The longest challenge and the shortest, each refusal. */
+static void call_read_challenge(void)
+{
+    lift_read_challenge(BYTES("otp-md5 9999 ABCDEFGHijkl6789 "));
+    lift_read_challenge(BYTES("otp-md5 \t0\t t\n"));
+    lift_read_challenge(BYTES("OTP-md5 1 t\n"));
+    lift_read_challenge(BYTES("otp-md4 1 t\n"));
+    lift_read_challenge(BYTES("otp-md5 01 t\n"));
+    lift_read_challenge(BYTES("otp-md5 1 ABCDEFGHijkl67890\n"));
+    lift_read_challenge(BYTES("otp-md5 1 te_st\n"));
+    lift_read_challenge(BYTES("otp-md5 1 test"));
+    lift_read_challenge(bytes, ROOM);
+    lift_read_challenge(bytes, 0);
+}
+
+static void call_write_challenge(void)
+{
+    lift_write_challenge(BYTES("ABCDEFGHijkl6789"), 9999, buf, 30);
+    lift_write_challenge(BYTES("ABCDEFGHijkl6789"), 9999, buf, 29);
+    lift_write_challenge(BYTES("t"), 0, buf, ROOM);
+    lift_write_challenge(BYTES(""), 0, buf, ROOM);
+    lift_write_challenge(BYTES("te_st"), 0, buf, ROOM);
+    lift_write_challenge(BYTES("test"), 10000, buf, ROOM);
+}
+
 /* One line, and the most; a refusal of each kind of input. */
 static void call_write_card(void)
 {
@@ -151,6 +176,8 @@ int main(void)
     measure("lift_read_reply", call_read_reply);
     measure("lift_write_hex", call_write_hex);
     measure("lift_write_words", call_write_words);
+    measure("lift_read_challenge", call_read_challenge);
+    measure("lift_write_challenge", call_write_challenge);
     measure("lift_write_card", call_write_card);
     measure("lift_password_of", call_password_of);
     measure("lift_bytes_of", call_bytes_of);

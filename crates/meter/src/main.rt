@@ -1,0 +1,120 @@
+// Repeats one call of the login table, for the benchmark: the call's letter, 0, 1 or 3 for 0, 1 or 32 accounts, and how many thousand times.
+use challenge::counts::Counted;
+use libc::STDIN_FILENO;
+use libc::STDOUT_FILENO;
+use login::calls;
+use login::table::Table;
+use login::table::fresh;
+use password::bytes::bytes_of;
+use password::generator::generate;
+use password::hash::step;
+use refusal::Reading;
+
+// The password of document 01's card at that count; the one at count 99 is presented here.
+fn password_at(count: u32) -> u64 {
+    let Reading::Password(p) = generate(b"A_Valid_Pass_Phrase", b"AValidSeed", count) else {
+        return 0;
+    };
+    p
+}
+
+// A table with that many accounts, each at count 100.
+fn table_of(accounts: u16) -> Table {
+    let stored = bytes_of(password_at(100));
+    let mut t = fresh();
+    let mut id = 0;
+    while id < accounts {
+        id += 1;
+        let enrolled = calls::enrol(t, id, 100, b"AValidSeed", &stored);
+        t = enrolled.table;
+    }
+    t
+}
+
+// Challenge leaves the table as it is: the first byte that was written stands in for a change.
+fn challenged(table: Table, port: u8) -> Table {
+    let mut buf = [0u8; 64];
+    calls::challenge(table, port, &mut buf);
+    let rooms = table.rooms;
+    let ports = table.ports;
+    let mut line = table.line;
+    line.turn = buf[0];
+    Table { rooms, ports, line }
+}
+
+fn once(call: u8, table: Table, port: u8, id: u16) -> Table {
+    let stored = [7u8; 8];
+    match call {
+        b'e' => calls::enrol(table, 1000, 99, b"AValidSeed", &stored).table,
+        b'r' => calls::remove(table, id).table,
+        b'j' => calls::join(table, port, id).table,
+        b'l' => calls::leave(table, port).table,
+        b'c' => challenged(table, port),
+        b'h' => calls::reply(table, port, b"85C4 3EE0 3857 765B").table,
+        b'w' => calls::reply(table, port, b"FOWL KID MASH DEAD DUAL OAF").table,
+        b'n' => calls::renew(table, port, 99, b"dog2", &stored, b"85C4 3EE0 3857 765B").table,
+        b't' => calls::tick(table),
+        _ => table,
+    }
+}
+
+// Each repetition's port comes from the table before it (0: a turn is at most 60, and a challenge starts with the letter o), so that none can be left out.
+fn repeat(call: u8, start: Table, id: u16, times: u64) -> Table {
+    let mut last = start;
+    let mut k = 0;
+    while k < times {
+        let port = last.line.turn / 200;
+        let from = if call == b't' { last } else { start };
+        last = once(call, from, port, id);
+        k += 1;
+    }
+    last
+}
+
+// The one hash that Reply does, on a password and then on what it gave.
+fn hashes(times: u64) -> u64 {
+    let mut p = 0;
+    let mut k = 0;
+    while k < times {
+        p = step(p);
+        k += 1;
+    }
+    p
+}
+
+// What is repeated: with how many accounts, the last of them in turn where the call is one of a turn.
+fn measure(call: u8, accounts: u16, times: u64) {
+    let mut start = table_of(accounts);
+    if (call != b'e') & (call != b'r') & (call != b'j') {
+        let joined = calls::join(start, 0, accounts);
+        start = joined.table;
+    }
+    let last = repeat(call, start, accounts, times);
+    io::print_decimal(STDOUT_FILENO, last.line.len as u64);
+    io::write_all(STDOUT_FILENO, b" ");
+    io::print_decimal(STDOUT_FILENO, last.line.turn as u64);
+    io::write_all(STDOUT_FILENO, b"\n");
+}
+
+fn main() {
+    let mut input = [0u8; 6];
+    let n = io::read_full(STDIN_FILENO, &mut input);
+    if n < 3 {
+        return;
+    }
+    let Counted::Is(thousands) = challenge::counts::read_count(&input[2..n]) else {
+        return;
+    };
+    let accounts = match input[1] {
+        b'0' => 0,
+        b'1' => 1,
+        _ => 32,
+    };
+    let times = thousands as u64 * 1000;
+    if input[0] == b's' {
+        io::print_hex(STDOUT_FILENO, hashes(times), 16);
+        io::write_all(STDOUT_FILENO, b"\n");
+        return;
+    }
+    measure(input[0], accounts, times);
+}
