@@ -27,4 +27,5 @@ pub mod Examples
 pub mod Tight
 pub mod Tables
 pub mod OneStep
+pub mod Determined
 pub mod Demand3

@@ -1,0 +1,36 @@
+-- The promises of `dictionary`, `sixwords` and `reply` determine their results.
+use mathlib.Core.Path.{sym, _∙_}
+use denote.Ref.{now}
+use Rattle.dictionary.proofs.word_at.Reads as word-at
+use Rattle.dictionary.proofs.place_of.Reads as place-of
+use Rattle.sixwords.proofs.places_of.Reads as places-of
+use Rattle.sixwords.proofs.number_of.Reads as number-of
+use Rattle.reply.proofs.read.Reads as read
+use Rattle.reply.proofs.write_hex.Reads as write-hex
+use Rattle.reply.proofs.words_length.Reads as words-length
+use Rattle.reply.proofs.write_words.Reads as write-words
+use Rattle.demands.specs.Determined.{Answers, AnswersAndLent, left}
+
+pub word-at-determined : Answers word-at.Learnt
+word-at-determined k a y z e f p q = p ∙ sym q
+
+pub place-of-determined : Answers place-of.Learnt
+place-of-determined k a y z e f p q = p ∙ sym q
+
+pub places-of-determined : Answers places-of.Learnt
+places-of-determined k a y z e f p q = p ∙ sym q
+
+pub number-of-determined : Answers number-of.Learnt
+number-of-determined k a y z e f p q = p ∙ sym q
+
+pub read-determined : Answers read.Learnt
+read-determined k a y z e f p q = p ∙ sym q
+
+pub write-hex-determined : AnswersAndLent write-hex.Learnt (λ k e. now (e .1 .0))
+write-hex-determined k a y z e f p q = left _ _ p q
+
+pub words-length-determined : Answers words-length.Learnt
+words-length-determined k a y z e f p q = p .0 ∙ sym (q .0)
+
+pub write-words-determined : AnswersAndLent write-words.Learnt (λ k e. now (e .1 .0))
+write-words-determined k a y z e f p q = left _ _ p q

@@ -1,0 +1,45 @@
+/* A call of each function of lift.h, as a panel would make it: a challenge is
+ * read, the password for it made and written, and a typed line read back. */
+#include <stdio.h>
+#include <string.h>
+
+#include "lift.h"
+
+#define BYTES(string) (const uint8_t *)(string), strlen(string)
+
+static const char phrase[] = "A_Valid_Pass_Phrase", challenge[] = "otp-md5 99 AValidSeed\n";
+
+static void print_text(const char *what, const uint8_t *text, lift_written result)
+{
+    if (result.refusal != 0)
+        printf("%s refused %u\n", what, (unsigned)result.refusal);
+    else
+        printf("%s %.*s\n", what, (int)result.written, (const char *)text);
+}
+
+int main(void)
+{
+    uint8_t buf[99 * 52], digest[16], key[8];
+
+    lift_challenge asked = lift_read_challenge(BYTES(challenge));
+    const uint8_t *seed = (const uint8_t *)challenge + asked.seed_at;
+    lift_reading made = lift_password(BYTES(phrase), seed, asked.seed_len, asked.count);
+    print_text("words", buf, lift_write_words(made.password, buf, sizeof buf));
+    print_text("hex", buf, lift_write_hex(made.password, buf, sizeof buf));
+    print_text("short", buf, lift_write_hex(made.password, buf, 15));
+
+    lift_reading typed = lift_read_reply(BYTES("fowl kid mash dead dual oaf"));
+    printf("typed the same %d\n", typed.refusal == 0 && typed.password == made.password);
+    typed = lift_read_reply(BYTES("FOWL KID MASH DEAD DUAL OAK"));
+    printf("mistyped refused %u\n", (unsigned)typed.refusal);
+    typed = lift_read_reply(BYTES("FOWL KID MSAH DEAD DUAL OAF"));
+    printf("unknown refused %u word %u\n", (unsigned)typed.refusal, (unsigned)typed.place);
+
+    lift_bytes_of(made.password, key);
+    printf("the eight bytes and back %d\n", lift_password_of(key) == made.password);
+    lift_md5(key, sizeof key, digest, sizeof digest);
+    printf("digest %02x%02x..\n", digest[0], digest[1]);
+    print_text("challenge", buf, lift_write_challenge(seed, asked.seed_len, 98, buf, sizeof buf));
+    print_text("card", buf, lift_write_card(BYTES(phrase), BYTES(challenge), 2, buf, sizeof buf));
+    return 0;
+}
