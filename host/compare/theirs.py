@@ -1,5 +1,6 @@
 """What the cases share: programs of others run in children with a time limit, and our answers."""
 import collections
+import contextlib
 import functools
 import os
 import pathlib
@@ -12,8 +13,15 @@ HERE = pathlib.Path(__file__).resolve().parent
 ABSENT = 3  # the status of our small C programs where the library isn't installed
 
 
-class Absent(Exception):
+class NotShown(Exception):
+    """Why a case says nothing here, in a line."""
+
+
+class Absent(NotShown):
     """A package that isn't installed here, by its Debian name."""
+
+    def __init__(self, package):
+        super().__init__(f"Debian package {package} is not installed here")
 
 
 # status is None where the time limit ended it; a signal's number is below 0
@@ -59,6 +67,26 @@ def limited(command, seconds, said_to_it=""):
     finally:
         end_group(child)
     return Ended(status, said.decode("latin-1"))
+
+
+@contextlib.contextmanager
+def service(command, uid, gid):
+    """A program that runs as that user until the block is left; then it and its children are gone."""
+    child = subprocess.Popen([str(word) for word in command], stdin=subprocess.DEVNULL,
+                             stdout=subprocess.DEVNULL, stderr=subprocess.DEVNULL,
+                             start_new_session=True, **whose(uid, gid))
+    try:
+        yield
+    finally:
+        child.terminate()
+        with contextlib.suppress(subprocess.TimeoutExpired):
+            child.wait(10)
+        end_group(child)
+
+
+def whose(uid, gid):
+    """Only root can, and has to, start a program as another user."""
+    return {"user": uid, "group": gid, "extra_groups": []} if os.geteuid() == 0 else {}
 
 
 def end_group(child):
