@@ -118,6 +118,14 @@ def ours(lines):
     return harness.asked(driver(), lines)
 
 
+def replay(lines):
+    """What program replay answers, for the table that lift.h doesn't have; None without the crate."""
+    if not (harness.ROOT / "crates" / "replay").is_dir():
+        return None
+    harness.run(["rt", "check", "replay"])
+    return harness.asked(harness.ROOT / "target" / "bin" / "replay", lines)
+
+
 def hold(right, what):
     """Our own half has to be right, or the comparison fails."""
     if not right:
