@@ -4,6 +4,7 @@ import contextlib
 import functools
 import os
 import pathlib
+import pwd
 import signal
 import subprocess
 
@@ -11,6 +12,12 @@ import harness
 
 HERE = pathlib.Path(__file__).resolve().parent
 ABSENT = 3  # the status of our small C programs where the library isn't installed
+# document 01's refusals, as far as they are answers here
+REFUSALS = {"13": "count over 9,999", "21": "another algorithm than md5", "22": "no such count",
+            "32": "check sum wrong", "60": "not in front", "61": "wrong reply"}
+
+# status is None where the time limit ended it; a signal's number is below 0
+Ended = collections.namedtuple("Ended", "status said")
 
 
 class NotShown(Exception):
@@ -24,26 +31,21 @@ class Absent(NotShown):
         super().__init__(f"Debian package {package} is not installed here")
 
 
-# status is None where the time limit ended it; a signal's number is below 0
-Ended = collections.namedtuple("Ended", "status said")
+def versions(*packages):
+    """What Debian calls the installed versions, or Absent for the first that isn't there."""
+    return "with " + ", ".join(version(package) for package in packages)
 
 
 def version(package):
-    """What Debian calls the installed version."""
-    done = subprocess.run(["dpkg-query", "-W", "-f", "${db:Status-Status} ${Version}", package],
-                          stdout=subprocess.PIPE, stderr=subprocess.DEVNULL, check=False)
+    try:
+        done = subprocess.run(["dpkg-query", "-W", "-f", "${db:Status-Status} ${Version}", package],
+                              stdout=subprocess.PIPE, stderr=subprocess.DEVNULL, check=False)
+    except OSError:  # no Debian machine
+        raise Absent(package) from None
     status, _, number = done.stdout.decode().partition(" ")
     if status != "installed":
         raise Absent(package)
     return f"{package} {number}"
-
-
-def versions(*packages):
-    """All of them, or Absent for the first that isn't there."""
-    try:
-        return ", ".join(version(package) for package in packages)
-    except OSError:  # no dpkg-query: not a Debian machine
-        raise Absent(packages[0]) from None
 
 
 def built(source):
@@ -54,57 +56,60 @@ def built(source):
     return program
 
 
-def limited(command, seconds, said_to_it=""):
-    """Runs a program in a process group of its own, which is gone when this returns."""
-    child = subprocess.Popen([str(word) for word in command], stdin=subprocess.PIPE,
-                             stdout=subprocess.PIPE, stderr=subprocess.DEVNULL,
-                             start_new_session=True)
-    try:
-        said, _ = child.communicate(said_to_it.encode(), timeout=seconds)
-        status = child.returncode
-    except subprocess.TimeoutExpired:
-        status, said = None, b""
-    finally:
-        end_group(child)
-    return Ended(status, said.decode("latin-1"))
+# others' programs: each in a process group of its own, which is gone afterwards
 
 
 @contextlib.contextmanager
-def service(command, uid, gid):
-    """A program that runs as that user until the block is left; then it and its children are gone."""
-    child = subprocess.Popen([str(word) for word in command], stdin=subprocess.DEVNULL,
-                             stdout=subprocess.DEVNULL, stderr=subprocess.DEVNULL,
-                             start_new_session=True, **whose(uid, gid))
+def started(command, **options):
+    """A child until the block is left; it is asked to end before it has to."""
     try:
-        yield
+        child = subprocess.Popen([str(word) for word in command], start_new_session=True, **options)
+    except OSError as trouble:
+        raise NotShown(f"{command[0]}: {trouble}") from None
+    try:
+        yield child
     finally:
         child.terminate()
         with contextlib.suppress(subprocess.TimeoutExpired):
-            child.wait(10)
-        end_group(child)
+            child.wait(5)
+        with contextlib.suppress(ProcessLookupError):
+            os.killpg(child.pid, signal.SIGKILL)
+        child.wait()
 
 
-def whose(uid, gid):
-    """Only root can, and has to, start a program as another user."""
-    return {"user": uid, "group": gid, "extra_groups": []} if os.geteuid() == 0 else {}
-
-
-def end_group(child):
-    """Ends what a child started with start_new_session has left running."""
-    try:
-        os.killpg(child.pid, signal.SIGKILL)
-    except ProcessLookupError:
-        pass
-    child.wait()
+def limited(command, seconds, said_to_it="", **options):
+    """Runs a program to its end or the limit."""
+    with started(command, stdin=subprocess.PIPE, stdout=subprocess.PIPE,
+                 stderr=subprocess.STDOUT, **options) as child:
+        try:
+            said, _ = child.communicate(said_to_it.encode(), timeout=seconds)
+            return Ended(child.returncode, said.decode("latin-1"))
+        except subprocess.TimeoutExpired:
+            return Ended(None, f"no end within {seconds} s")
 
 
 def how(ended):
-    """The end of a program in words."""
-    if ended.status is None:
-        return "did not end within the time limit"
-    if ended.status < 0:
+    """What a program said last, or how it ended."""
+    if ended.status is not None and ended.status < 0:
         return f"crashed ({signal.Signals(-ended.status).name})"
-    return f"ended with status {ended.status}"
+    return ended.said.strip().split("\n")[-1]
+
+
+def unprivileged():
+    """The one who runs this; where that is root, nobody."""
+    if os.geteuid() != 0:
+        return os.geteuid(), os.getegid()
+    nobody = pwd.getpwnam("nobody")
+    return nobody.pw_uid, nobody.pw_gid
+
+
+def as_unprivileged():
+    """The options that start a program so; only root can start one as another."""
+    uid, gid = unprivileged()
+    return {"user": uid, "group": gid, "extra_groups": []} if os.geteuid() == 0 else {}
+
+
+# our half
 
 
 @functools.cache
@@ -119,14 +124,24 @@ def ours(lines):
 
 
 def replay(lines):
-    """What program replay answers, for the table that lift.h doesn't have; None without the crate."""
+    """What program replay answers, for the table, which lift.h hasn't; None without the crate."""
     if not (harness.ROOT / "crates" / "replay").is_dir():
         return None
     harness.run(["rt", "check", "replay"])
     return harness.asked(harness.ROOT / "target" / "bin" / "replay", lines)
 
 
-def hold(right, what):
-    """Our own half has to be right, or the comparison fails."""
-    if not right:
-        raise harness.Failed(f"our answer is not the one claimed: {what}")
+def hold(answers, claimed):
+    """Our own half has to be as claimed, or the comparison fails."""
+    if answers != claimed:
+        raise harness.Failed(f"our answers are {answers}, claimed were {claimed}")
+
+
+def in_words(answer):
+    """`ok VALUES` or `no NUMBER` for people."""
+    kind, number, *_ = f"{answer} ".split(" ")
+    return answer[3:] if kind == "ok" else f"refused, {number}: {REFUSALS[number]}"
+
+
+def row(whose, said):
+    return f"  {whose:15} {said}"
