@@ -1,6 +1,6 @@
 # What a person types. Each target works on a fresh clone with the kit's rt, gcc and python3 on the PATH.
 SHELL := /bin/bash
-.PHONY: test bench card
+.PHONY: test bench card compare
 .DEFAULT_GOAL := test
 
 # The gate: layout, every proof from nothing with the must-fail edits and the programs, the host tests.
@@ -25,3 +25,7 @@ card:
 # Ratios to plain C and to Heimdal's library, in one run.
 bench:
 	@python3 bench/bench.py
+
+# Programs of others on the inputs where they fail, beside our answers: all cases, or CASE=NAME.
+compare:
+	@python3 host/compare/compare.py $(CASE)
