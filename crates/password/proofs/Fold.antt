@@ -7,7 +7,7 @@ use lib.Bits.{bitXor, xor-shr, xor-mod}
 use lib.ListN.{length, getD}
 use lib.Seq.{ext-getD}
 use Rattle.block.specs.Lists.{upTo, length-upTo, getD-upTo}
-use Rattle.md5.specs.declared.State.{State}
+use Rattle.rounds.specs.declared.State.{State}
 use Rattle.md5.specs.Md5.{bytes4}
 use Rattle.password.specs.Password.{fold, numberAfter, numberOf}
 use Rattle.password.specs.Inside.{high4}

@@ -5,7 +5,8 @@ use mathlib.Core.List.{List, [], _∷_, map}
 use Rattle.refusal.specs.declared.Reading.{Reading}
 use Rattle.block.specs.Lists.{upTo}
 use Rattle.block.specs.Padding.{paddedByte, paddedWord, blockAt, absorbed}
-use Rattle.md5.specs.Md5.{md5, registers, compressed, rounds, performed, operation, round1, round2, round3, round4}
+use Rattle.md5.specs.Md5.{md5, registers}
+use Rattle.rounds.specs.Rounds.{compressed, rounds, performed, operation, round1, round2, round3, round4}
 use Rattle.text.specs.Quoted.{codes}
 use Rattle.text.specs.Tests.{every}
 use Rattle.password.specs.Checks.{plain}

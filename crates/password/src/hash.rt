@@ -7,9 +7,9 @@ ghost use Rattle.block.specs.Padding.{word, little};
 ghost use Rattle.md5.specs.Md5 as Md5;
 ghost use Rattle.password.specs.Password as spec;
 ghost use Rattle.password.specs.Inside.{high4};
-use md5::State;
 use md5::compress::compress_eight;
-use md5::digest::registers;
+use md5::compress::registers;
+use rounds::State;
 
 // A register's four bytes as a number, first byte most significant. MD5 writes the low-order byte first.
 fn read_high(x: u32) -> u64
