@@ -8,7 +8,7 @@ use Rattle.refusal.specs.declared.Checked.{Checked}
 use Rattle.refusal.specs.declared.Written.{Written}
 use Rattle.refusal.specs.Checks.{unless}
 use Rattle.text.specs.Front.{writtenOf}
-use Rattle.password.specs.Checks.{phraseChecked}
+use Rattle.inputs.specs.Checks.{phraseChecked}
 use Rattle.password.specs.Password.{Algorithm, password}
 use Rattle.reply.specs.Writing.{hexOf, wordsOf}
 use Rattle.challenge.specs.declared.reading.Challenge.{Challenge}

@@ -14,7 +14,7 @@ use Rattle.text.specs.Digits.{numberOf}
 use Rattle.text.specs.Front.{writtenOf}
 use Rattle.text.specs.Tests.{same}
 use Rattle.text.specs.Quoted.{codes}
-use Rattle.password.specs.Checks.{seedChecked}
+use Rattle.inputs.specs.Checks.{seedChecked}
 use Rattle.challenge.specs.declared.reading.Challenge.{Challenge}
 use Rattle.challenge.specs.Counts.{isCount, decimalOf}
 

@@ -16,7 +16,7 @@ use Rattle.text.specs.Quoted.{codes}
 use Rattle.text.specs.Kinds.{inToken, isBlank, isDigit}
 use Rattle.text.specs.Digits.{digitValue, numberOf}
 use Rattle.text.specs.DigitLaws.{value-digit, number-lt, length-digits}
-use Rattle.password.specs.Checks.{seedChecked}
+use Rattle.inputs.specs.Checks.{seedChecked}
 use Rattle.challenge.specs.declared.counts.Counted.{Counted}
 use Rattle.challenge.specs.declared.reading.Challenge.{Challenge}
 use Rattle.challenge.specs.Counts.{leadingZero, isCount, countedOf, widthOf, decimalOf}

@@ -12,7 +12,7 @@ use Rattle.block.specs.Lists.{upTo}
 use Rattle.block.specs.Padding.{paddedByte, paddedWord, blockAt, absorbed}
 use Rattle.md5.specs.Md5.{md5, registers}
 use Rattle.rounds.specs.Rounds.{compressed, rounds, performed, operation, round1, round2, round3, round4}
-use Rattle.password.specs.Checks.{plain}
+use Rattle.inputs.specs.Checks.{plain}
 use Rattle.password.specs.Password.{Algorithm, fold, numberAfter, bytesOf, hash, generated}
 use Rattle.dictionary.specs.Words.{wordsIn, lines, words}
 use Rattle.dictionary.specs.Dictionary as Dictionary

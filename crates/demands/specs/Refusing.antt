@@ -16,7 +16,7 @@ use Rattle.refusal.specs.Checks.{unless}
 use Rattle.text.specs.Kinds.{lowerOf}
 use Rattle.text.specs.Tests.{either}
 use Rattle.text.specs.Scan.{tokens, unspaced}
-use Rattle.password.specs.Checks.{plain, seedChecked}
+use Rattle.inputs.specs.Checks.{plain, seedChecked}
 use Rattle.password.specs.Password.{Algorithm, bytesOf, hash, password, generated}
 use Rattle.dictionary.specs.declared.Found.{Found}
 use Rattle.dictionary.specs.Dictionary.{placeOf}

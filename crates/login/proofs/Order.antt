@@ -8,7 +8,7 @@ use Rattle.text.specs.Tests.{same}
 use Rattle.refusal.specs.declared.Refusal.{Refusal}
 use Rattle.refusal.specs.declared.Checked.{Checked}
 use Rattle.refusal.specs.Checks.{unless}
-use Rattle.password.specs.Checks.{seedChecked}
+use Rattle.inputs.specs.Checks.{seedChecked}
 use Rattle.text.specs.Kinds.{lowerOf}
 use Rattle.line.specs.Line.{standsIn}
 use Rattle.login.specs.declared.checks.Turn.{Turn}

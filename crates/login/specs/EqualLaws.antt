@@ -16,7 +16,7 @@ use Rattle.refusal.specs.declared.Written.{Written}
 use Rattle.refusal.specs.Checks.{unless}
 use Rattle.text.specs.Kinds.{lowerOf}
 use Rattle.text.specs.Tests.{both, same}
-use Rattle.password.specs.Checks.{seedChecked}
+use Rattle.inputs.specs.Checks.{seedChecked}
 use Rattle.password.specs.Password.{Algorithm, hash, bytesOf}
 use Rattle.challenge.specs.Challenges.{must, challengeWritten}
 use Rattle.reply.specs.Reading.{readingOf}

@@ -10,7 +10,7 @@ use Rattle.refusal.specs.declared.Checked.{Checked}
 use Rattle.refusal.specs.declared.Reading.{Reading}
 use Rattle.refusal.specs.Checks.{unless}
 use Rattle.text.specs.Kinds.{lowerOf}
-use Rattle.password.specs.Checks.{seedChecked}
+use Rattle.inputs.specs.Checks.{seedChecked}
 use Rattle.login.specs.declared.checks.Turn.{Turn}
 use Rattle.login.specs.declared.table.Replied.{Replied}
 use Rattle.login.specs.Table.{Room, State, placeOf, accountOf, turnId}

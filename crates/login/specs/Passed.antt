@@ -10,7 +10,7 @@ use Rattle.refusal.specs.declared.Checked.{Checked}
 use Rattle.refusal.specs.declared.Written.{Written}
 use Rattle.refusal.specs.Checks.{unless}
 use Rattle.text.specs.Kinds.{lowerOf}
-use Rattle.password.specs.Checks.{seedChecked}
+use Rattle.inputs.specs.Checks.{seedChecked}
 use Rattle.challenge.specs.Challenges.{must, challengeWritten}
 use Rattle.line.specs.Line.{standsIn, joined, left, removed}
 use Rattle.login.specs.Table.{State, free, holds, isThere, accountOf, portOf, placeOf, hasTurn, turnId, withRoom, withLine}

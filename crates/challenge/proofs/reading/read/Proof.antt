@@ -10,7 +10,7 @@ use lib.ListN.{length, take, drop}
 use Rattle.refusal.specs.declared.Checked.{Checked}
 use Rattle.text.specs.Quoted.{codes}
 use Rattle.text.specs.Digits.{numberOf}
-use Rattle.password.specs.Checks.{seedChecked}
+use Rattle.inputs.specs.Checks.{seedChecked}
 use Rattle.text.specs.Tests.{same}
 use Rattle.challenge.specs.declared.counts.Counted.{Counted}
 use Rattle.challenge.specs.Counts.{isCount, countedOf}
