@@ -12,7 +12,7 @@ use Rattle.refusal.specs.declared.Checked.{Checked}
 use Rattle.refusal.specs.declared.Reading.{Reading}
 use Rattle.refusal.specs.declared.Written.{Written}
 use Rattle.refusal.specs.Numbers.{listingOf}
-use Rattle.refusal.specs.Checks.{unless}
+use Rattle.refusal.specs.Checks.{unless, must}
 use Rattle.text.specs.Kinds.{lowerOf}
 use Rattle.text.specs.Tests.{either}
 use Rattle.text.specs.Scan.{tokens, unspaced}
@@ -26,7 +26,7 @@ use Rattle.digest.specs.Digest.{digestOf}
 use Rattle.md5.specs.Md5.{md5}
 use Rattle.challenge.specs.declared.reading.Challenge.{Challenge}
 use Rattle.challenge.specs.Counts.{isCount}
-use Rattle.challenge.specs.Challenges.{opening, algorithm, tokenAt, endOf, countAt, seedAt, terminated, must, step1, step2, step3, step4, step5, found, challengeOf, challengeText, challengeWritten}
+use Rattle.challenge.specs.Challenges.{opening, algorithm, tokenAt, endOf, countAt, seedAt, terminated, step1, step2, step3, step4, step5, found, challengeOf, challengeText, challengeWritten}
 use Rattle.text.specs.Tests.{same}
 use Rattle.reply.specs.Reading.{sixWords, upperText, summed, foundAfter, sixteenDigits, hexReading, readingOf}
 use Rattle.cards.specs.Cards.{challengeChecked, countOf, linesChecked, cardChecked, cardOf, cardWritten}

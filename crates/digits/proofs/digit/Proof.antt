@@ -1,8 +1,8 @@
 -- `digit` meets its promise.
 use borrow.Author.Needs.{needs}
 use borrow.Author.Tests.{lt-ltb, le-ltb}
-use Rattle.text.proofs.digits.digit.Statement.{statement}
-use Rattle.text.proofs.digits.digit.Tie as tie
+use Rattle.digits.proofs.digit.Statement.{statement}
+use Rattle.digits.proofs.digit.Tie as tie
 
 pub digit-spec : {M : Type 1} → statement M
 digit-spec =

@@ -1,17 +1,16 @@
 // Digits: what one stands for, and a number written with them.
-use crate::kinds::is_digit;
-use crate::kinds::lower;
 ghost use mathlib.Core.Path.{_≡_};
 ghost use Prim.Native.Nat.{_≤_, _<_};
 ghost use lib.ListN.{length};
-ghost use Rattle.text.specs.Digits.{digitOf, digitsOf, digitValue};
+ghost use Rattle.digits.specs.Digits.{digitOf, digitsOf, digitValue};
 ghost use Rattle.text.specs.Front.{Put};
+use text::kinds::lower;
 
 // What a digit stands for, hex digits of either case among them; 16 for a byte that is none.
 pub fn digit_value(b: u8) -> u8
     ensures { λ r. ⌜ r ≡ digitValue b ⌝ }
 {
-    if is_digit(b) {
+    if (b'0' <= b) & (b <= b'9') {
         return b - b'0';
     }
     let l = lower(b);

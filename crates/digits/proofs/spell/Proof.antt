@@ -6,12 +6,11 @@ use Prim.Native.Nat.{ℕ, _≤_, _-_, _+_, _/_, _%_, _<_}
 use native.Mathlib.Nat.{mod-lt}
 use native.Mathlib.Omega.{arith}
 use lib.ListN.{length, drop, set, length-set}
-use Rattle.text.specs.Digits.{digitOf, digitsOf}
+use Rattle.digits.specs.Digits.{digitOf, digitsOf}
 use Rattle.text.specs.Front.{Put}
-use Rattle.text.specs.DigitLaws.{length-digits}
-use Rattle.text.specs.FrontLaws.{spelt}
-use Rattle.text.proofs.digits.spell.Statement.{statement}
-use Rattle.text.proofs.digits.spell.Tie as tie
+use Rattle.digits.specs.DigitLaws.{length-digits, spelt}
+use Rattle.digits.proofs.spell.Statement.{statement}
+use Rattle.digits.proofs.spell.Tie as tie
 
 abbrev Inv-loop : tie.InvT-loop
 Inv-loop buf₀ n base k rest₀ i₀ buf rest i =

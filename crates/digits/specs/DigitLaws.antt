@@ -7,15 +7,15 @@ use mathlib.Core.Logic.{⊎-elim}
 use native.Mathlib.Omega.{arith}
 use native.Mathlib.Nat.{add-zero, add-suc, suc-add, mul-one, mul-assoc, mod-lt, div-lt-iff-lt-mul, div-add-mod', pow-suc, pow-succ', pow-zero}
 use native.Mathlib.Numerals.{add-one}
-use lib.ListN.{length, length-append}
+use lib.ListN.{length, take, drop, set, length-append}
 use lib.Dec.{leb, ltb}
-use lib.Seq.{append-snoc}
+use lib.Seq.{append-snoc, drop-at, set-split, length-take-le}
 use lib.Arith.{digits-lt, digits-div, digits-mod}
 use borrow.Author.Tests.{lt-ltb, le-ltb, le-leb, lt-leb, leb-true, leb-false, ltb-true, ltb-false}
 use Rattle.text.specs.Tests.{every, every-append, every-weaker, either, cases, both}
 use Rattle.text.specs.Kinds.{isDigit, isUpper, isSolid, lowerOf}
 use Rattle.text.specs.KindLaws.{past-space-solid}
-use Rattle.text.specs.Digits.{digitOf, digitsOf, isHex, digitValue, numberAfter, numberOf}
+use Rattle.digits.specs.Digits.{digitOf, digitsOf, isHex, digitValue, numberAfter, numberOf}
 
 pub value-digit : (b : ℕ) → isDigit b ≡ true → digitValue b ≡ b - 48
 value-digit b e = rw e
@@ -36,6 +36,16 @@ pub length-digits : (base k n : ℕ) → length (digitsOf base k n) ≡ k
 unfolding digitsOf
 length-digits base zero n = refl
 length-digits base (suc k) n = length-append (digitsOf base k (n / base)) (digitOf (n % base) ∷ []) ∙ ap (λ (m : ℕ). m + 1) (length-digits base k (n / base)) ∙ add-one k
+
+-- one digit more of r, from the right
+pub spelt : (base : ℕ) (b : List ℕ) (i r : ℕ) → i < length b → digitsOf base (i + 1) r ++ drop (i + 1) b ≡ digitsOf base i (r / base) ++ drop i (set b i (digitOf (r % base)))
+unfolding digitsOf
+spelt base b i r h =
+    ap (λ (k : ℕ). digitsOf base k r ++ drop k b) (add-one i)
+    ∙ append-snoc (digitsOf base i (r / base)) (digitOf (r % base)) (drop (suc i) b)
+    ∙ ap (λ (l : List ℕ). digitsOf base i (r / base) ++ l)
+    (sym (ap (drop i) (set-split b i (digitOf (r % base)) h) ∙ drop-at (take i b) (digitOf (r % base) ∷ drop (suc i) b) i
+    (length-take-le i b (omega arith))))
 
 -- each digit is read as what it is written for
 pub digit-read : (d : ℕ) → d < 16 → digitValue (digitOf d) ≡ d
