@@ -11,7 +11,7 @@ use Rattle.refusal.specs.declared.Checked.{Checked}
 use Rattle.refusal.specs.declared.Reading.{Reading}
 use Rattle.refusal.specs.declared.Written.{Written}
 use Rattle.text.specs.Front.{writtenOf, leaves, Writes}
-use Rattle.password.specs.Checks.{phraseChecked, seedChecked}
+use Rattle.inputs.specs.Checks.{phraseChecked, seedChecked}
 use Rattle.password.specs.Password.{Algorithm, password, generated}
 use Rattle.password.specs.Laws.{generated-good}
 use Rattle.challenge.specs.declared.reading.Challenge.{Challenge}

@@ -6,14 +6,14 @@ use lib.Dec.{leb}
 use Rattle.refusal.specs.declared.Refusal.{Refusal}
 use Rattle.refusal.specs.declared.Checked.{Checked}
 use Rattle.refusal.specs.declared.Written.{Written}
-use Rattle.refusal.specs.Checks.{unless}
+use Rattle.refusal.specs.Checks.{unless, must}
 use Rattle.text.specs.Front.{writtenOf}
-use Rattle.password.specs.Checks.{phraseChecked}
+use Rattle.inputs.specs.Checks.{phraseChecked}
 use Rattle.password.specs.Password.{Algorithm, password}
 use Rattle.reply.specs.Writing.{hexOf, wordsOf}
 use Rattle.challenge.specs.declared.reading.Challenge.{Challenge}
 use Rattle.challenge.specs.Counts.{decimalOf}
-use Rattle.challenge.specs.Challenges.{must, challengeOf, seedOf}
+use Rattle.challenge.specs.Challenges.{challengeOf, seedOf}
 
 -- "count, space, hex, space, words, newline"
 unfoldable pub lineOf : ℕ → ℕ → List ℕ

@@ -4,13 +4,14 @@ use mathlib.Core.List.{List, [], _∷_, _++_, map, flatten}
 use Prim.Native.Nat.{ℕ}
 use Rattle.bytes.specs.Bytes.{indexOf, indexAfter}
 use Rattle.text.specs.Scan.{runOf}
-use Rattle.text.specs.Digits.{digitsOf, numberAfter}
+use Rattle.digits.specs.Digits.{digitsOf, numberAfter}
 use Rattle.text.specs.Quoted.{codes}
 use Rattle.text.specs.Tests.{every, same}
 use Rattle.block.specs.Lists.{upTo}
 use Rattle.block.specs.Padding.{paddedByte, paddedWord, blockAt, absorbed}
-use Rattle.md5.specs.Md5.{md5, registers, compressed, rounds, performed, operation, round1, round2, round3, round4}
-use Rattle.password.specs.Checks.{plain}
+use Rattle.md5.specs.Md5.{md5, registers}
+use Rattle.rounds.specs.Rounds.{compressed, rounds, performed, operation, round1, round2, round3, round4}
+use Rattle.inputs.specs.Checks.{plain}
 use Rattle.password.specs.Password.{fold, numberAfter as bytesAfter, hash, password}
 use Rattle.dictionary.specs.Words.{wordsIn, lines, words}
 use Rattle.sixwords.specs.Places.{pairs, pairSum, whole, cut, placesOf}

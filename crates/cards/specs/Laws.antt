@@ -16,15 +16,15 @@ use borrow.Author.Tests.{leb-true}
 use Rattle.refusal.specs.declared.Refusal.{Refusal}
 use Rattle.refusal.specs.declared.Checked.{Checked}
 use Rattle.refusal.specs.declared.Reading.{Reading}
-use Rattle.refusal.specs.Checks.{unless}
+use Rattle.refusal.specs.Checks.{unless, must}
 use Rattle.text.specs.Tests.{both}
-use Rattle.password.specs.Checks.{phraseChecked}
+use Rattle.inputs.specs.Checks.{phraseChecked}
 use Rattle.password.specs.Password.{Algorithm, password, generated}
 use Rattle.password.specs.Laws.{generated-good}
 use Rattle.password.specs.Bounds.{password-bound}
 use Rattle.reply.specs.Reading.{readingOf}
 use Rattle.challenge.specs.declared.reading.Challenge.{Challenge}
-use Rattle.challenge.specs.Challenges.{must, challengeOf, seedOf}
+use Rattle.challenge.specs.Challenges.{challengeOf, seedOf}
 use Rattle.cards.specs.Cards.{lineOf, cardText, challengeChecked, countOf, linesChecked, cardChecked, cardOf}
 
 pub length-line : (count p : ℕ) → length (lineOf count p) ≡ widthOf count + length (wordsOf p) + 19

@@ -7,14 +7,14 @@ use lib.ListN.{length, take, drop}
 use Rattle.refusal.specs.declared.Refusal.{Refusal}
 use Rattle.refusal.specs.declared.Checked.{Checked}
 use Rattle.refusal.specs.declared.Written.{Written}
-use Rattle.refusal.specs.Checks.{unless}
+use Rattle.refusal.specs.Checks.{unless, must}
 use Rattle.text.specs.Kinds.{inToken, isBlank, lowerOf}
 use Rattle.text.specs.Scan.{runOf}
-use Rattle.text.specs.Digits.{numberOf}
+use Rattle.digits.specs.Digits.{numberOf}
 use Rattle.text.specs.Front.{writtenOf}
 use Rattle.text.specs.Tests.{same}
 use Rattle.text.specs.Quoted.{codes}
-use Rattle.password.specs.Checks.{seedChecked}
+use Rattle.inputs.specs.Checks.{seedChecked}
 use Rattle.challenge.specs.declared.reading.Challenge.{Challenge}
 use Rattle.challenge.specs.Counts.{isCount, decimalOf}
 
@@ -49,10 +49,6 @@ seedAt text = nextAt text (countAt text)
 abbrev pub terminated : List ℕ → Bool
 terminated [] = false
 terminated (b ∷ rest) = eqb b 32 || eqb b 10
-
--- a step's test, with its refusal
-abbrev pub must : Bool → Refusal → Checked
-must test why = cond test Checked.Good (Checked.Refused why)
 
 -- the five steps
 abbrev pub step1 : List ℕ → Checked

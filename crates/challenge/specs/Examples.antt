@@ -4,10 +4,10 @@ use mathlib.Core.List.{List, [], _∷_, _++_, map}
 use Prim.Native.Nat.{ℕ}
 use Rattle.refusal.specs.declared.Refusal.{Refusal}
 use Rattle.text.specs.Scan.{runOf}
-use Rattle.text.specs.Digits.{numberAfter}
+use Rattle.digits.specs.Digits.{numberAfter}
 use Rattle.text.specs.Quoted.{codes}
 use Rattle.text.specs.Tests.{every, same}
-use Rattle.password.specs.Checks.{plain}
+use Rattle.inputs.specs.Checks.{plain}
 use Rattle.challenge.specs.declared.reading.Challenge.{Challenge}
 use Rattle.challenge.specs.Counts.{isCount}
 use Rattle.challenge.specs.Challenges.{opening, algorithm, tokenAt, nextAt, countAt, seedAt, challengeOf, seedOf}

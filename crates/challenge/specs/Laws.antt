@@ -11,19 +11,19 @@ use lib.Seq.{length-take-le}
 use borrow.Author.Tests.{eqb-true, eq-eqb, leb-true, lt-ltb}
 use Rattle.refusal.specs.declared.Refusal.{Refusal}
 use Rattle.refusal.specs.declared.Checked.{Checked}
-use Rattle.refusal.specs.Checks.{unless}
+use Rattle.refusal.specs.Checks.{unless, must}
 use Rattle.text.specs.Quoted.{codes}
 use Rattle.text.specs.Kinds.{inToken, isBlank, isDigit}
-use Rattle.text.specs.Digits.{digitValue, numberOf}
-use Rattle.text.specs.DigitLaws.{value-digit, number-lt, length-digits}
-use Rattle.password.specs.Checks.{seedChecked}
+use Rattle.digits.specs.Digits.{digitValue, numberOf}
+use Rattle.digits.specs.DigitLaws.{value-digit, number-lt, length-digits}
+use Rattle.inputs.specs.Checks.{seedChecked}
 use Rattle.challenge.specs.declared.counts.Counted.{Counted}
 use Rattle.challenge.specs.declared.reading.Challenge.{Challenge}
 use Rattle.challenge.specs.Counts.{leadingZero, isCount, countedOf, widthOf, decimalOf}
 use Rattle.text.specs.Scan.{runOf}
 use Rattle.text.specs.ScanLaws.{run-within}
 use Rattle.text.specs.Tests.{every, both, either, cases, same, same-equal}
-use Rattle.challenge.specs.Challenges.{opening, algorithm, challengeText, tokenAt, endOf, nextAt, countAt, seedAt, terminated, must, step1, step2, step3, step4, step5, found, challengeOf, startOf, lengthOf, seedOf}
+use Rattle.challenge.specs.Challenges.{opening, algorithm, challengeText, tokenAt, endOf, nextAt, countAt, seedAt, terminated, step1, step2, step3, step4, step5, found, challengeOf, startOf, lengthOf, seedOf}
 
 -- ---- tokens and their places
 

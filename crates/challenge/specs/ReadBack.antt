@@ -14,11 +14,11 @@ use Rattle.text.specs.Kinds.{inToken, isBlank, isDigit, isLetter, isUpper, isLo
 use Rattle.text.specs.Tests.{every, every-append, every-weaker, second-fails, both, either, cases, same, same-self}
 use Rattle.text.specs.Scan.{runOf}
 use Rattle.text.specs.ScanLaws.{run-until}
-use Rattle.text.specs.Digits.{digitOf, digitsOf, numberOf}
-use Rattle.text.specs.DigitLaws.{number-digits}
+use Rattle.digits.specs.Digits.{digitOf, digitsOf, numberOf}
+use Rattle.digits.specs.DigitLaws.{number-digits}
 use Rattle.text.specs.Quoted.{codes}
-use Rattle.password.specs.Checks.{plain, seedChecked}
-use Rattle.password.specs.Laws.{good-seed}
+use Rattle.inputs.specs.Checks.{plain, seedChecked}
+use Rattle.inputs.specs.Laws.{good-seed}
 use Rattle.challenge.specs.declared.reading.Challenge.{Challenge}
 use Rattle.challenge.specs.Counts.{leadingZero, isCount, widthOf, decimalOf}
 use Rattle.challenge.specs.Challenges.{opening, algorithm, tokenAt, endOf, nextAt, countAt, seedAt, terminated, found, challengeOf, startOf, lengthOf, seedOf, challengeText}

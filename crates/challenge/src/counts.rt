@@ -6,11 +6,11 @@ ghost use Prim.Native.Nat.{_+_, _≤_};
 ghost use lib.ListN.{length};
 ghost use Rattle.text.specs.Kinds.{isDigit};
 ghost use Rattle.text.specs.Tests.{every};
-ghost use Rattle.text.specs.Digits.{numberOf};
+ghost use Rattle.digits.specs.Digits.{numberOf};
 ghost use Rattle.text.specs.Front.{Put};
 ghost use Rattle.challenge.specs.Counts.{countedOf, widthOf, decimalOf};
-use text::digits::digit_value;
-use text::digits::spell;
+use digits::digit_value;
+use digits::spell;
 use text::kinds::Kind;
 use text::scan::run;
 

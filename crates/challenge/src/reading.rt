@@ -6,7 +6,7 @@ ghost use Rattle.text.specs.Tests.{same as sameText};
 ghost use Rattle.challenge.specs.Challenges as spec;
 use crate::counts::Counted;
 use crate::counts::read_count;
-use password::checks::check_seed;
+use inputs::check_seed;
 use refusal::Checked;
 use refusal::Refusal;
 use text::kinds::Kind;

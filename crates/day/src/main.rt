@@ -90,7 +90,7 @@ fn password_at(seed: &[u8], count: u32) -> u64 {
 }
 
 fn enrol(table: Table, id: u16, count: u16, seed: &[u8]) -> Table {
-    let bytes = password::bytes::bytes_of(password_at(seed, count as u32));
+    let bytes = eight_bytes::bytes_of(password_at(seed, count as u32));
     settled(login::calls::enrol(table, id, count, seed, &bytes))
 }
 
@@ -109,7 +109,7 @@ fn reply(table: Table, port: u8, seed: &[u8], count: u32) -> Table {
 fn renew(table: Table, port: u8, seed: &[u8], count: u32, next: &[u8], next_count: u16) -> Table {
     let mut hex = [0u8; 16];
     reply::write_hex(password_at(seed, count), &mut hex);
-    let bytes = password::bytes::bytes_of(password_at(next, next_count as u32));
+    let bytes = eight_bytes::bytes_of(password_at(next, next_count as u32));
     answered(login::calls::renew(table, port, next_count, next, &bytes, &hex))
 }
 

@@ -13,7 +13,7 @@ use Rattle.refusal.specs.declared.Reading.{Reading}
 use Rattle.text.specs.Kinds.{isUpper, isLower, isLetter, isDigit, lowerOf}
 use Rattle.text.specs.Tests.{every, both}
 use Rattle.text.specs.Front.{front}
-use Rattle.password.specs.Checks.{phraseChecked, plain, seedChecked}
+use Rattle.inputs.specs.Checks.{phraseChecked, plain, seedChecked}
 use Rattle.password.specs.Laws.{generated-good}
 use Rattle.password.specs.Bounds.{password-bound}
 use Rattle.password.specs.Password.{Algorithm, bytesOf, hash, password, generated}

@@ -13,7 +13,7 @@ use Rattle.refusal.specs.declared.Written.{Written}
 use Rattle.text.specs.Kinds.{lowerOf}
 use Rattle.text.specs.Scan.{tokens, unspaced}
 use Rattle.text.specs.Front.{Writes}
-use Rattle.password.specs.Checks.{phraseChecked, seedChecked}
+use Rattle.inputs.specs.Checks.{phraseChecked, seedChecked}
 use Rattle.password.specs.Password.{Algorithm, password, generated}
 use Rattle.password.specs.Laws.{generated-good}
 use Rattle.challenge.specs.declared.reading.Challenge.{Challenge}

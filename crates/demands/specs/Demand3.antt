@@ -6,7 +6,7 @@ use mathlib.Core.List.{List}
 use lib.ListN.{length}
 use Rattle.refusal.specs.declared.Checked.{Checked}
 use Rattle.text.specs.Tests.{every}
-use Rattle.password.specs.Checks.{phraseChecked}
+use Rattle.inputs.specs.Checks.{phraseChecked}
 use Rattle.password.specs.Password.{Algorithm, password}
 use Rattle.login.specs.Table.{Room, State, accountOf, turnId}
 use Rattle.challenge.specs.Challenges.{challengeText}

@@ -6,9 +6,9 @@ use Rattle.refusal.specs.declared.Refusal.{Refusal}
 use Rattle.refusal.specs.declared.Reading.{Reading}
 use Rattle.text.specs.Tests.{every}
 use Rattle.text.specs.Scan.{runOf, parted, unspaced}
-use Rattle.text.specs.Digits as Digits
+use Rattle.digits.specs.Digits as Digits
 use Rattle.text.specs.Quoted.{codes}
-use Rattle.password.specs.Checks.{plain}
+use Rattle.inputs.specs.Checks.{plain}
 use Rattle.dictionary.specs.Words.{wordsIn, lines, words}
 use Rattle.dictionary.specs.Dictionary.{standsFrom, placeOf}
 use Rattle.sixwords.specs.Places.{pairs, pairSum, whole, cut, placesOf, joined, allPlaces, numberOf}

@@ -9,7 +9,7 @@ use Rattle.refusal.specs.declared.Written.{Written}
 use Rattle.refusal.specs.Numbers.{listingOf}
 use Rattle.challenge.specs.declared.reading.Challenge.{Challenge}
 use Rattle.text.specs.Front.{writtenOf}
-use Rattle.md5.specs.Md5.{digestOf}
+use Rattle.digest.specs.Digest.{digestOf}
 use Rattle.password.specs.Password.{Algorithm, generated}
 use Rattle.challenge.specs.Challenges.{challengeOf}
 use Rattle.reply.specs.Reading.{readingOf}

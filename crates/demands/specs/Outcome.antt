@@ -12,8 +12,8 @@ use Rattle.refusal.specs.declared.Reading.{Reading}
 use Rattle.refusal.specs.Checks.{unless}
 use Rattle.text.specs.Kinds.{isUpper, isLower, isLetter, isDigit, lowerOf}
 use Rattle.text.specs.Tests.{every, both}
-use Rattle.password.specs.Checks.{plain, seedChecked}
-use Rattle.password.specs.Laws.{good-seed}
+use Rattle.inputs.specs.Checks.{plain, seedChecked}
+use Rattle.inputs.specs.Laws.{good-seed}
 use Rattle.password.specs.Password.{Algorithm, hash, bytesOf}
 use Rattle.reply.specs.Reading.{readingOf}
 use Rattle.line.specs.Line as Line

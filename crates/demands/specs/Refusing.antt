@@ -12,20 +12,21 @@ use Rattle.refusal.specs.declared.Checked.{Checked}
 use Rattle.refusal.specs.declared.Reading.{Reading}
 use Rattle.refusal.specs.declared.Written.{Written}
 use Rattle.refusal.specs.Numbers.{listingOf}
-use Rattle.refusal.specs.Checks.{unless}
+use Rattle.refusal.specs.Checks.{unless, must}
 use Rattle.text.specs.Kinds.{lowerOf}
 use Rattle.text.specs.Tests.{either}
 use Rattle.text.specs.Scan.{tokens, unspaced}
-use Rattle.password.specs.Checks.{plain, seedChecked}
+use Rattle.inputs.specs.Checks.{plain, seedChecked}
 use Rattle.password.specs.Password.{Algorithm, bytesOf, hash, password, generated}
 use Rattle.dictionary.specs.declared.Found.{Found}
 use Rattle.dictionary.specs.Dictionary.{placeOf}
 use Rattle.sixwords.specs.declared.Number.{Number}
 use Rattle.sixwords.specs.Places.{numberOf as placesNumber}
-use Rattle.md5.specs.Md5.{md5, digestOf}
+use Rattle.digest.specs.Digest.{digestOf}
+use Rattle.md5.specs.Md5.{md5}
 use Rattle.challenge.specs.declared.reading.Challenge.{Challenge}
 use Rattle.challenge.specs.Counts.{isCount}
-use Rattle.challenge.specs.Challenges.{opening, algorithm, tokenAt, endOf, countAt, seedAt, terminated, must, step1, step2, step3, step4, step5, found, challengeOf, challengeText, challengeWritten}
+use Rattle.challenge.specs.Challenges.{opening, algorithm, tokenAt, endOf, countAt, seedAt, terminated, step1, step2, step3, step4, step5, found, challengeOf, challengeText, challengeWritten}
 use Rattle.text.specs.Tests.{same}
 use Rattle.reply.specs.Reading.{sixWords, upperText, summed, foundAfter, sixteenDigits, hexReading, readingOf}
 use Rattle.cards.specs.Cards.{challengeChecked, countOf, linesChecked, cardChecked, cardOf, cardWritten}

@@ -11,7 +11,7 @@ use lib.ListN.{replicate}
 use Rattle.refusal.specs.declared.Checked.{Checked}
 use Rattle.text.specs.Tests.{every, every-at}
 use Rattle.block.specs.Lists.{upTo, length-upTo, getD-upTo}
-use Rattle.password.specs.Checks.{plain}
+use Rattle.inputs.specs.Checks.{plain}
 use Rattle.line.specs.Line.{some, joined, others, turnWithout, without, ticked}
 use Rattle.login.specs.Table.{fresh, placeOf, hasTurn}
 use Rattle.login.specs.Steps.{enrolChecked, enrol, joinChecked, join, tick}

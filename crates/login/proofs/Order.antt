@@ -7,13 +7,12 @@ use lib.Dec.{eqb, leb, ltb}
 use Rattle.text.specs.Tests.{same}
 use Rattle.refusal.specs.declared.Refusal.{Refusal}
 use Rattle.refusal.specs.declared.Checked.{Checked}
-use Rattle.refusal.specs.Checks.{unless}
-use Rattle.password.specs.Checks.{seedChecked}
+use Rattle.refusal.specs.Checks.{unless, must}
+use Rattle.inputs.specs.Checks.{seedChecked}
 use Rattle.text.specs.Kinds.{lowerOf}
 use Rattle.line.specs.Line.{standsIn}
 use Rattle.login.specs.declared.checks.Turn.{Turn}
 use Rattle.login.specs.Table.{Room, State, holds, isThere, accountOf, portOf, hasTurn, turnId, placeOf}
-use Rattle.challenge.specs.Challenges.{must}
 use Rattle.login.specs.Checks.{inOrder, countWithin, accountThere, notUsedUp, inFront}
 use Rattle.login.specs.Steps.{enrolChecked, joinChecked, leaveChecked, turnChecked}
 use Rattle.login.specs.Inside.{turnOf, newChecked}

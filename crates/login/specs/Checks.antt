@@ -6,9 +6,8 @@ use lib.Dec.{eqb, leb, ltb}
 use Rattle.text.specs.Tests.{same}
 use Rattle.refusal.specs.declared.Refusal.{Refusal}
 use Rattle.refusal.specs.declared.Checked.{Checked}
-use Rattle.refusal.specs.Checks.{unless}
+use Rattle.refusal.specs.Checks.{unless, must}
 use Rattle.text.specs.Kinds.{lowerOf}
-use Rattle.challenge.specs.Challenges.{must}
 use Rattle.line.specs.Line.{standsIn}
 use Rattle.login.specs.Table.{State, holds, isThere, accountOf, portOf, hasTurn}
 

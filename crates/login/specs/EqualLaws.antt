@@ -13,12 +13,12 @@ use Rattle.refusal.specs.declared.Refusal.{Refusal}
 use Rattle.refusal.specs.declared.Checked.{Checked}
 use Rattle.refusal.specs.declared.Reading.{Reading}
 use Rattle.refusal.specs.declared.Written.{Written}
-use Rattle.refusal.specs.Checks.{unless}
+use Rattle.refusal.specs.Checks.{unless, must}
 use Rattle.text.specs.Kinds.{lowerOf}
 use Rattle.text.specs.Tests.{both, same}
-use Rattle.password.specs.Checks.{seedChecked}
+use Rattle.inputs.specs.Checks.{seedChecked}
 use Rattle.password.specs.Password.{Algorithm, hash, bytesOf}
-use Rattle.challenge.specs.Challenges.{must, challengeWritten}
+use Rattle.challenge.specs.Challenges.{challengeWritten}
 use Rattle.reply.specs.Reading.{readingOf}
 use Rattle.line.specs.Line.{Waiting, standsIn, left}
 use Rattle.login.specs.declared.port.Port.{Port}

@@ -6,7 +6,7 @@ use lib.ListN.{replicate}
 use Rattle.text.specs.Tests.{every}
 use Rattle.refusal.specs.declared.Refusal.{Refusal}
 use Rattle.text.specs.Quoted.{codes}
-use Rattle.password.specs.Checks.{plain}
+use Rattle.inputs.specs.Checks.{plain}
 use Rattle.password.specs.Password.{numberAfter}
 use Rattle.line.specs.Line.{Waiting, some, joined, others, turnWithout, without, ticked}
 use Rattle.login.specs.Table.{fresh, placeOf}

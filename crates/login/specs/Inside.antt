@@ -8,13 +8,12 @@ use Rattle.text.specs.Tests.{same}
 use Rattle.refusal.specs.declared.Refusal.{Refusal}
 use Rattle.refusal.specs.declared.Checked.{Checked}
 use Rattle.refusal.specs.declared.Reading.{Reading}
-use Rattle.refusal.specs.Checks.{unless}
+use Rattle.refusal.specs.Checks.{unless, must}
 use Rattle.text.specs.Kinds.{lowerOf}
-use Rattle.password.specs.Checks.{seedChecked}
+use Rattle.inputs.specs.Checks.{seedChecked}
 use Rattle.login.specs.declared.checks.Turn.{Turn}
 use Rattle.login.specs.declared.table.Replied.{Replied}
 use Rattle.login.specs.Table.{Room, State, placeOf, accountOf, turnId}
-use Rattle.challenge.specs.Challenges.{must}
 use Rattle.login.specs.Checks.{inOrder, countWithin}
 use Rattle.login.specs.Steps.{After, replyRefused, turnChecked, renewRead}
 

@@ -8,10 +8,10 @@ use lib.Dec.{eqb, leb, ltb}
 use Rattle.refusal.specs.declared.Refusal.{Refusal}
 use Rattle.refusal.specs.declared.Checked.{Checked}
 use Rattle.refusal.specs.declared.Written.{Written}
-use Rattle.refusal.specs.Checks.{unless}
+use Rattle.refusal.specs.Checks.{unless, must}
 use Rattle.text.specs.Kinds.{lowerOf}
-use Rattle.password.specs.Checks.{seedChecked}
-use Rattle.challenge.specs.Challenges.{must, challengeWritten}
+use Rattle.inputs.specs.Checks.{seedChecked}
+use Rattle.challenge.specs.Challenges.{challengeWritten}
 use Rattle.line.specs.Line.{standsIn, joined, left, removed}
 use Rattle.login.specs.Table.{State, free, holds, isThere, accountOf, portOf, placeOf, hasTurn, turnId, withRoom, withLine}
 use Rattle.login.specs.Checks.{seedNew}

@@ -9,7 +9,7 @@ use Rattle.refusal.specs.declared.Reading.{Reading}
 use Rattle.refusal.specs.declared.Written.{Written}
 use Rattle.refusal.specs.Checks.{unless}
 use Rattle.text.specs.Kinds.{lowerOf}
-use Rattle.password.specs.Checks.{seedChecked}
+use Rattle.inputs.specs.Checks.{seedChecked}
 use Rattle.password.specs.Password.{Algorithm, hash, bytesOf, numberOf}
 use Rattle.challenge.specs.Challenges.{challengeText, challengeWritten}
 use Rattle.reply.specs.Reading.{readingOf}

@@ -15,7 +15,7 @@ use Rattle.refusal.specs.declared.Reading.{Reading}
 use Rattle.text.specs.Tests.{both}
 use Rattle.password.specs.Password.{Algorithm, hash, bytesOf}
 use Rattle.reply.specs.Reading.{readingOf}
-use Rattle.challenge.specs.Challenges.{must}
+use Rattle.refusal.specs.Checks.{must}
 use Rattle.line.specs.Line.{Waiting}
 use Rattle.login.specs.declared.port.Port.{Port}
 use Rattle.login.specs.declared.table.Replied.{Replied}

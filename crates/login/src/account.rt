@@ -5,8 +5,8 @@ ghost use lib.ListN.{length};
 ghost use Rattle.login.specs.Table.{roomOf};
 ghost use Rattle.login.specs.Steps.{newRoom, lowered};
 use crate::table::Account;
-use password::bytes::number_of;
-use password::generator::put_lower;
+use eight_bytes::number_of;
+use inputs::put_lower;
 
 // An account with that id, and these values.
 pub fn account(id: u16, count: u16, seed: &[u8], password: &[u8; 8]) -> Account

@@ -1,4 +1,2 @@
 -- What the proofs of `md5`'s functions share.
-pub mod Turns
-pub mod Sums
-pub mod Bytes
+pub mod Orders

@@ -1,18 +1,6 @@
-// MD5 (RFC 1321) of 0 to 4,096 bytes.
+// MD5 (RFC 1321): from a message to the registers.
 
-// Sums, rotations and the four functions on words.
-mod words;
-// The four rounds and what they do to the registers.
-mod rounds;
-// One block taken into the registers.
+// What each operation adds, summed before a round begins.
+mod sums;
+// The registers after a message, and after one of eight bytes.
 pub mod compress;
-// The digest of a message.
-pub mod digest;
-
-// The four registers A, B, C, D.
-pub struct State {
-    pub a: u32,
-    pub b: u32,
-    pub c: u32,
-    pub d: u32,
-}

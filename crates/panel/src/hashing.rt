@@ -1,7 +1,8 @@
 // MD5 and the generator, for C.
 ghost use mathlib.Core.Path.{_≡_};
 ghost use lib.ListN.{length};
-ghost use Rattle.md5.specs.Md5.{digestOf, md5};
+ghost use Rattle.digest.specs.Digest.{digestOf};
+ghost use Rattle.md5.specs.Md5.{md5};
 ghost use Rattle.password.specs.Password as Password;
 ghost use Rattle.panel.specs.Answers.{readingRow, Reported};
 use crate::answers::LiftReading;
@@ -13,7 +14,7 @@ use crate::answers::written_row;
 pub extern "C" fn lift_md5(text: &[u8], digest: &mut [u8]) -> LiftWritten
     ensures { λ r. ⌜ Reported (digestOf (now (text .entry)) (length (now (digest .entry)))) (md5 (now (text .entry))) (now (digest .entry)) (now (digest .exit)) r ⌝ }
 {
-    written_row(md5::digest::digest(text, digest))
+    written_row(digest::digest(text, digest))
 }
 
 #[no_mangle]

@@ -36,12 +36,12 @@ pub extern "C" fn lift_write_words(password: u64, buf: &mut [u8]) -> LiftWritten
 pub extern "C" fn lift_password_of(bytes: &[u8; 8]) -> u64
     ensures { λ r. ⌜ r ≡ numberOf (now (bytes .entry)) ⌝ }
 {
-    password::bytes::number_of(*bytes)
+    eight_bytes::number_of(*bytes)
 }
 
 #[no_mangle]
 pub extern "C" fn lift_bytes_of(password: u64, bytes: &mut [u8; 8])
     ensures { λ r. ⌜ now (bytes .exit) ≡ bytesOf password ⌝ }
 {
-    *bytes = password::bytes::bytes_of(password);
+    *bytes = eight_bytes::bytes_of(password);
 }

@@ -1,3 +1,3 @@
 -- What the proofs of `password`'s functions share.
-pub mod Fold
+pub mod Folded
 pub mod Chain

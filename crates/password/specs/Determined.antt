@@ -2,16 +2,8 @@
 use Prim.Native.Nat.{ℕ}
 use mathlib.Core.Path.{_≡_, sym, _∙_}
 use mathlib.Core.List.{List}
-use Rattle.refusal.specs.declared.Checked.{Checked}
 use Rattle.refusal.specs.declared.Reading.{Reading}
-use Rattle.password.specs.Checks.{phraseChecked, seedChecked}
 use Rattle.password.specs.Password.{Algorithm, hash, bytesOf, generated}
-
-pub check-phrase-determined : (phrase : List ℕ) (r s : Checked) → r ≡ phraseChecked phrase → s ≡ phraseChecked phrase → r ≡ s
-check-phrase-determined phrase r s p q = p ∙ sym q
-
-pub check-seed-determined : (seed : List ℕ) (r s : Checked) → r ≡ seedChecked seed → s ≡ seedChecked seed → r ≡ s
-check-seed-determined seed r s p q = p ∙ sym q
 
 pub step-determined : (x r s : ℕ) → r ≡ hash Algorithm.md5 (bytesOf x) → s ≡ hash Algorithm.md5 (bytesOf x) → r ≡ s
 step-determined x r s p q = p ∙ sym q

@@ -5,10 +5,11 @@ use mathlib.Core.List.{List, [], _∷_, map}
 use Rattle.refusal.specs.declared.Reading.{Reading}
 use Rattle.block.specs.Lists.{upTo}
 use Rattle.block.specs.Padding.{paddedByte, paddedWord, blockAt, absorbed}
-use Rattle.md5.specs.Md5.{md5, registers, compressed, rounds, performed, operation, round1, round2, round3, round4}
+use Rattle.md5.specs.Md5.{md5, registers}
+use Rattle.rounds.specs.Rounds.{compressed, rounds, performed, operation, round1, round2, round3, round4}
 use Rattle.text.specs.Quoted.{codes}
 use Rattle.text.specs.Tests.{every}
-use Rattle.password.specs.Checks.{plain}
+use Rattle.inputs.specs.Checks.{plain}
 use Rattle.password.specs.Password.{Algorithm, fold, numberAfter, hash, password, generated}
 
 -- The pass-phrase `This is a test.` and the seed `TeSt`, at a count.

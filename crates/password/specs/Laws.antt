@@ -1,43 +1,16 @@
--- Laws of the checks, the chain and the generator, for the crates above.
-use Prim.Native.Nat.{ℕ, zero, suc, _+_, _*_, _/_, _%_, _^_, _≤_, _<_}
-use mathlib.Core.Path.{_≡_, refl, sym, ap, _∙_}
-use mathlib.Core.Bool.{Bool, true, false, cond, _&&_}
-use mathlib.Core.List.{List}
-use borrow.Author.Tests.{lt-ltb, le-ltb, ltb-false, leb-true}
+-- Laws of the generator and of a password's bytes, for the crates above.
+use Prim.Native.Nat.{ℕ, _+_, _*_, _/_, _%_, _^_, _≤_, _<_}
+use mathlib.Core.Path.{_≡_, sym, ap, _∙_}
+use mathlib.Core.List.{List, [], _∷_}
+use borrow.Author.Tests.{lt-ltb, le-ltb}
 use native.Mathlib.Nat.{div-add-mod'}
 use native.Mathlib.Omega.{arith}
-use lib.Dec.{ltb, leb}
-use lib.ListN.{length}
 use lib.Pow.{shr-shr}
 use Rattle.refusal.specs.declared.Refusal.{Refusal}
 use Rattle.refusal.specs.declared.Checked.{Checked}
 use Rattle.refusal.specs.declared.Reading.{Reading}
-use Rattle.password.specs.Checks.{phraseChecked, plain, seedChecked}
-use Rattle.password.specs.Password.{Algorithm, hash, password, generated, numberAfter, numberOf, bytesOf}
-
--- ---- what a check that finds nothing wrong says
-
-pub good-phrase : (phrase : List ℕ) → phraseChecked phrase ≡ Checked.Good → (10 ≤ length phrase) × (length phrase ≤ 63)
-good-phrase phrase = by (ltb (length phrase) 10) (ltb 63 (length phrase)) refl refl
-  where
-    by : (a b : Bool) → ltb (length phrase) 10 ≡ a → ltb 63 (length phrase) ≡ b
-        → cond a (Checked.Refused Refusal.PhraseShort) (cond b (Checked.Refused Refusal.PhraseLong) Checked.Good) ≡ Checked.Good
-        → (10 ≤ length phrase) × (length phrase ≤ 63)
-    by true b s l e = let z : _≡_ {A = ℕ} 0 1 = cc in omega arith
-    by false true s l e = let z : _≡_ {A = ℕ} 0 1 = cc in omega arith
-    by false false s l e = (ltb-false (length phrase) 10 s, ltb-false 63 (length phrase) l)
-
-pub good-seed : (seed : List ℕ) → seedChecked seed ≡ Checked.Good
-    → (1 ≤ length seed) × (length seed ≤ 16) × (plain seed ≡ true)
-good-seed seed = by (leb 1 (length seed)) (leb (length seed) 16) (plain seed) refl refl refl
-  where
-    by : (a b p : Bool) → leb 1 (length seed) ≡ a → leb (length seed) 16 ≡ b → plain seed ≡ p
-        → cond (a && b) (cond p Checked.Good (Checked.Refused Refusal.SeedCharacter)) (Checked.Refused Refusal.SeedLength) ≡ Checked.Good
-        → (1 ≤ length seed) × (length seed ≤ 16) × (plain seed ≡ true)
-    by false b p u v w e = let z : _≡_ {A = ℕ} 0 1 = cc in (omega arith, omega arith, cc)
-    by true false p u v w e = let z : _≡_ {A = ℕ} 0 1 = cc in (omega arith, omega arith, cc)
-    by true true false u v w e = let z : _≡_ {A = ℕ} 0 1 = cc in (omega arith, omega arith, cc)
-    by true true true u v w e = (leb-true 1 (length seed) u, leb-true (length seed) 16 v, w)
+use Rattle.inputs.specs.Checks.{phraseChecked, seedChecked}
+use Rattle.password.specs.Password.{Algorithm, password, generated, numberAfter, numberOf, bytesOf}
 
 -- ---- the generator's answers, one for each way through its checks
 
@@ -80,3 +53,11 @@ number-bytes p h =
     let s₅ = ap (λ n. after n 16) s₄ ∙ next-byte p 16 in
     let s₆ = ap (λ n. after n 8) s₅ ∙ next-byte p 8 in
     ap (λ n. n * 256 + p % 256) s₆ ∙ div-add-mod' p 256
+
+-- Eight bytes as a number: the first four, then the last four.
+pub number-eight : (b₀ b₁ b₂ b₃ b₄ b₅ b₆ b₇ : ℕ)
+    → numberOf (b₀ ∷ b₁ ∷ b₂ ∷ b₃ ∷ b₄ ∷ b₅ ∷ b₆ ∷ b₇ ∷ [])
+    ≡ (b₀ * 16777216 + b₁ * 65536 + b₂ * 256 + b₃) * 4294967296
+    + (b₄ * 16777216 + b₅ * 65536 + b₆ * 256 + b₇)
+unfolding numberAfter
+number-eight b₀ b₁ b₂ b₃ b₄ b₅ b₆ b₇ = omega arith

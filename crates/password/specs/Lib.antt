@@ -1,5 +1,4 @@
 -- The definitions that the promises of `password` cite, and laws for the crates above it.
-pub mod Checks
 pub mod Password
 pub mod Inside
 pub mod Laws

@@ -11,7 +11,7 @@ use Rattle.refusal.specs.declared.Reading.{Reading}
 use Rattle.refusal.specs.Checks.{unless}
 use Rattle.text.specs.Kinds.{lowerOf}
 use Rattle.md5.specs.Md5 as Md5
-use Rattle.password.specs.Checks.{phraseChecked, seedChecked}
+use Rattle.inputs.specs.Checks.{phraseChecked, seedChecked}
 
 -- "byte i of the 16-byte digest is xored with byte i+8, giving 8 bytes"
 unfoldable pub fold : List ℕ → List ℕ

@@ -7,35 +7,20 @@ ghost use Rattle.text.specs.Kinds.{lowerOf};
 ghost use Rattle.text.specs.Front.{Put};
 ghost use Rattle.password.specs.Password as spec;
 ghost use Rattle.password.specs.Inside.{chained};
-use crate::checks::check_phrase;
-use crate::checks::check_seed;
-use crate::hash::hash;
+use crate::fold::hash;
 use crate::hash::step;
+use inputs::check_phrase;
+use inputs::check_seed;
 use refusal::Checked;
 use refusal::Reading;
 use refusal::Refusal;
-
-// The seed in lower case at the front of the buffer.
-pub fn put_lower(buf: &mut [u8], seed: &[u8]) -> usize
-    requires { ⌜ length (now seed) ≤ length (now buf) ⌝ }
-    ensures { λ r. ⌜ Put (map lowerOf (now (seed .entry))) (now (buf .entry)) (now (buf .exit)) r ⌝ }
-{
-    let mut i = 0;
-    while i < seed.len() {
-        let typed = seed[i];
-        let kept = text::kinds::lower(typed);
-        buf[i] = kept;
-        i += 1;
-    }
-    i
-}
 
 // What is hashed at count 0: the seed in lower case, followed by the pass-phrase.
 fn put_message(buf: &mut [u8], phrase: &[u8], seed: &[u8]) -> usize
     requires { ⌜ length (now seed) + length (now phrase) ≤ length (now buf) ⌝ }
     ensures { λ r. ⌜ Put (map lowerOf (now (seed .entry)) ++ now (phrase .entry)) (now (buf .entry)) (now (buf .exit)) r ⌝ }
 {
-    let a = put_lower(buf, seed);
+    let a = inputs::put_lower(buf, seed);
     a + text::put::copy(&mut buf[a..], phrase)
 }
 
@@ -50,7 +35,7 @@ fn first(phrase: &[u8], seed: &[u8]) -> u64
 }
 
 // The password n counts up from p.
-pub fn chain(p: u64, n: u32) -> u64
+fn chain(p: u64, n: u32) -> u64
     ensures { λ r. ⌜ r ≡ chained n p ⌝ }
 {
     let mut x = p;

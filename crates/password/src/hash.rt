@@ -1,38 +1,10 @@
-// The folded hash of a message, and one step of the chain.
+// One step of the chain.
 ghost use mathlib.Core.Path.{_≡_};
-ghost use mathlib.Core.List.{_++_};
-ghost use Prim.Native.Nat.{_≤_, _<_};
-ghost use lib.ListN.{length};
+ghost use Prim.Native.Nat.{_<_};
 ghost use Rattle.block.specs.Padding.{word, little};
-ghost use Rattle.md5.specs.Md5 as Md5;
 ghost use Rattle.password.specs.Password as spec;
-ghost use Rattle.password.specs.Inside.{high4};
-use md5::State;
+use crate::fold::folded;
 use md5::compress::compress_eight;
-use md5::digest::registers;
-
-// A register's four bytes as a number, first byte most significant. MD5 writes the low-order byte first.
-fn read_high(x: u32) -> u64
-    ensures { λ r. ⌜ r ≡ high4 x ⌝ }
-{
-    let y = x as u64;
-    (y % 256) * 16777216 + (y / 256 % 256) * 65536 + (y / 65536 % 256) * 256 + y / 16777216 % 256
-}
-
-// The digest in the registers, folded: bytes 0 to 7 with bytes 8 to 15 are A with C and B with D.
-fn folded(q: State) -> u64
-    ensures { λ r. ⌜ r ≡ spec.numberOf (spec.fold (Md5.bytes4 (q .a) ++ Md5.bytes4 (q .b) ++ Md5.bytes4 (q .c) ++ Md5.bytes4 (q .d))) ⌝ }
-{
-    read_high(q.a ^ q.c) * 4294967296 + read_high(q.b ^ q.d)
-}
-
-// The folded hash of a message.
-pub fn hash(m: &[u8]) -> u64
-    requires { ⌜ length (now m) ≤ 4096 ⌝ }
-    ensures { λ r. ⌜ r ≡ spec.hash spec.md5 (now (m .entry)) ⌝ }
-{
-    folded(registers(m))
-}
 
 // Four bytes as a word of the block, low-order byte first.
 fn low_word(b0: u64, b1: u64, b2: u64, b3: u64) -> u32

@@ -1,10 +1,8 @@
-// From pass-phrase to password: what the two may be, the folded hash, the chain, the generator.
+// From pass-phrase to password: the folded hash, the chain, the generator.
 
-// A password as eight bytes, at the edges.
-pub mod bytes;
-// What a pass-phrase and a seed may be.
-pub mod checks;
-// The folded hash of a message, and of a password: one step of the chain.
+// The folded hash of a message.
+mod fold;
+// One step of the chain: the folded hash of a password.
 pub mod hash;
 // The password of a pass-phrase, a seed and a count.
 pub mod generator;

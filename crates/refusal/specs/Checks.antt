@@ -1,6 +1,11 @@
 -- One check after the other: "Checks run in the order given."
+use mathlib.Core.Bool.{Bool, cond}
 use Rattle.refusal.specs.declared.Refusal.{Refusal}
 use Rattle.refusal.specs.declared.Checked.{Checked}
+
+-- A test, with its refusal.
+abbrev pub must : Bool → Refusal → Checked
+must test why = cond test Checked.Good (Checked.Refused why)
 
 -- What comes next if the check found nothing wrong; otherwise its refusal, as an answer of that kind.
 abbrev pub unless : {A : Type 0} → (Refusal → A) → Checked → A → A

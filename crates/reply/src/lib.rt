@@ -1,8 +1,8 @@
 // Replies: a password written as hex or as six words, and read from what was typed. Document 01, 'Six words and hex'.
+use digits::spell;
 use refusal::Reading;
 use refusal::Refusal;
 use refusal::Written;
-use text::digits::spell;
 
 mod hex;
 mod tokens;

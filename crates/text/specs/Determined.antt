@@ -9,17 +9,17 @@ use Rattle.text.specs.Kinds.{ofKind}
 use Rattle.text.specs.Scan.{runOf}
 use Rattle.text.specs.Front.{Put}
 
--- a test of a byte: `is_letter`, `is_digit`, `is_white`, `is_solid`, `is_blank`, `in_token`, and `of_kind` over them
+-- a test of a byte: `is_letter` and `is_white`, each the test of a kind
 pub test-determined : (kind : Kind) (b : ℕ) (r s : Bool) → r ≡ ofKind kind b → s ≡ ofKind kind b → r ≡ s
 test-determined kind b r s p q = p ∙ sym q
 
--- a byte from a byte: `lower`, `upper` and `digit_value`, with f their definition
+-- a byte from a byte: `lower` and `upper`, and `digit_value` of `digits`, with f their definition
 pub byte-determined : (f : ℕ → ℕ) (b r s : ℕ) → r ≡ f b → s ≡ f b → r ≡ s
 byte-determined f b r s p q = p ∙ sym q
 
 pub run-determined : (kind : Kind) (text : List ℕ) (at r s : ℕ) → r ≡ runOf (ofKind kind) (drop at text) → s ≡ runOf (ofKind kind) (drop at text) → r ≡ s
 run-determined kind text at r s p q = p ∙ sym q
 
--- `spell` and `copy`: the count, and what is left in the buffer
+-- `copy`, and `spell` of `digits`: the count, and what is left in the buffer
 pub put-determined : (t b c d : List ℕ) (r s : ℕ) → Put t b c r → Put t b d s → (r ≡ s) × (c ≡ d)
 put-determined t b c d r s p q = (p .0 ∙ sym (q .0), p .1 ∙ sym (q .1))

@@ -1,11 +1,11 @@
 -- Laws of a text at the front of a buffer: two texts one after the other, and a text that grows byte by byte.
-use Prim.Native.Nat.{ℕ, suc, _+_, _-_, _/_, _%_, _≤_, _<_}
+use Prim.Native.Nat.{ℕ, suc, _+_, _-_, _≤_, _<_}
 use mathlib.Core.Path.{_≡_, refl, sym, _∙_, ap, ap₂}
-use mathlib.Core.List.{List, [], _∷_, _++_, append-assoc, append-nil}
+use mathlib.Core.List.{List, _++_, append-assoc, append-nil}
 use native.Mathlib.Omega.{arith}
 use native.Mathlib.Numerals.{add-one}
 use lib.ListN.{length, getD, take, drop, set, length-append, length-drop, drop-of-length-le}
-use lib.Seq.{take-all, take-at, drop-at, drop-drop, drop-cons, set-at, set-split, take-suc, append-snoc, length-take-le}
+use lib.Seq.{take-all, take-at, drop-at, drop-drop, drop-cons, set-at, take-suc, append-snoc, length-take-le}
 use borrow.Rule.Slice.PartMut.{midOf, putMid}
 use mathlib.Core.Bool.{Bool, true, false, cond}
 use lib.Dec.{leb}
@@ -13,7 +13,6 @@ use borrow.Author.Tests.{le-leb, lt-leb}
 use Rattle.refusal.specs.declared.Refusal.{Refusal}
 use Rattle.refusal.specs.declared.Written.{Written}
 use Rattle.text.specs.Front.{front, Put, leaves, Writes}
-use Rattle.text.specs.Digits.{digitOf, digitsOf}
 
 pub length-front : (t b : List ℕ) → length t ≤ length b → length (front t b) ≡ length b
 length-front t b h = simp (length-append, length-drop) (omega arith)
@@ -60,16 +59,6 @@ copied t b i h g =
     ∙ sym (append-snoc (take i t) (getD t i 0) (drop (suc i) b))
     ∙ ap (λ (l : List ℕ). l ++ drop (suc i) b) (sym (take-suc t i 0 h))
     ∙ ap (λ (k : ℕ). take k t ++ drop k b) (sym (add-one i))
-
--- one digit more of r, from the right
-pub spelt : (base : ℕ) (b : List ℕ) (i r : ℕ) → i < length b → digitsOf base (i + 1) r ++ drop (i + 1) b ≡ digitsOf base i (r / base) ++ drop i (set b i (digitOf (r % base)))
-unfolding digitsOf
-spelt base b i r h =
-    ap (λ (k : ℕ). digitsOf base k r ++ drop k b) (add-one i)
-    ∙ append-snoc (digitsOf base i (r / base)) (digitOf (r % base)) (drop (suc i) b)
-    ∙ ap (λ (l : List ℕ). digitsOf base i (r / base) ++ l)
-    (sym (ap (drop i) (set-split b i (digitOf (r % base)) h) ∙ drop-at (take i b) (digitOf (r % base) ∷ drop (suc i) b) i
-    (length-take-le i b (omega arith))))
 
 -- a text that was put where it had room was written
 pub put-writes : (t b b′ : List ℕ) (n : ℕ) → length t ≤ length b → Put t b b′ n → Writes t b b′ (Written.Wrote n)

@@ -1,6 +1,6 @@
 // The kinds of a byte, and the two cases of a letter. ASCII throughout: a byte over 127 is a token's byte and of no other kind.
 ghost use mathlib.Core.Path.{_≡_};
-ghost use Rattle.text.specs.Kinds.{isLetter, isDigit, isWhite, isSolid, isBlank, inToken, ofKind, lowerOf, upperOf};
+ghost use Rattle.text.specs.Kinds.{isLetter, isWhite, lowerOf, upperOf};
 
 // What a run of bytes is made of.
 pub enum Kind {
@@ -19,48 +19,10 @@ pub fn is_letter(b: u8) -> bool
     ((b'A' <= b) & (b <= b'Z')) | ((b'a' <= b) & (b <= b'z'))
 }
 
-pub fn is_digit(b: u8) -> bool
-    ensures { λ r. ⌜ r ≡ isDigit b ⌝ }
-{
-    (b'0' <= b) & (b <= b'9')
-}
-
 pub fn is_white(b: u8) -> bool
     ensures { λ r. ⌜ r ≡ isWhite b ⌝ }
 {
     (b == b' ') | (b == b'\t') | (b == b'\r') | (b == b'\n')
-}
-
-pub fn is_solid(b: u8) -> bool
-    ensures { λ r. ⌜ r ≡ isSolid b ⌝ }
-{
-    !((b == b' ') | (b == b'\t') | (b == b'\r') | (b == b'\n'))
-}
-
-pub fn is_blank(b: u8) -> bool
-    ensures { λ r. ⌜ r ≡ isBlank b ⌝ }
-{
-    (b == b' ') | (b == b'\t')
-}
-
-pub fn in_token(b: u8) -> bool
-    ensures { λ r. ⌜ r ≡ inToken b ⌝ }
-{
-    !((b == b' ') | (b == b'\t') | (b == b'\n'))
-}
-
-pub fn of_kind(kind: Kind, b: u8) -> bool
-    ensures { λ r. ⌜ r ≡ ofKind kind b ⌝ }
-{
-    match kind {
-        Kind::White => is_white(b),
-        Kind::Solid => is_solid(b),
-        Kind::Blank => is_blank(b),
-        Kind::Token => in_token(b),
-        Kind::Digit => is_digit(b),
-        Kind::Letter => is_letter(b),
-        Kind::LetterOrDigit => is_letter(b) | is_digit(b),
-    }
 }
 
 // An upper-case letter's lower case; any other byte as it is.

@@ -1,10 +1,26 @@
 // How far bytes of one kind go.
 use crate::kinds::Kind;
-use crate::kinds::of_kind;
+use crate::kinds::is_letter;
+use crate::kinds::is_white;
 ghost use mathlib.Core.Path.{_≡_};
 ghost use lib.ListN.{drop};
 ghost use Rattle.text.specs.Kinds.{ofKind};
 ghost use Rattle.text.specs.Scan.{runOf};
+
+// Whether a byte is of that kind.
+fn of_kind(kind: Kind, b: u8) -> bool
+    ensures { λ r. ⌜ r ≡ ofKind kind b ⌝ }
+{
+    match kind {
+        Kind::White => is_white(b),
+        Kind::Solid => !is_white(b),
+        Kind::Blank => (b == b' ') | (b == b'\t'),
+        Kind::Token => !((b == b' ') | (b == b'\t') | (b == b'\n')),
+        Kind::Digit => (b'0' <= b) & (b <= b'9'),
+        Kind::Letter => is_letter(b),
+        Kind::LetterOrDigit => is_letter(b) | ((b'0' <= b) & (b <= b'9')),
+    }
+}
 
 // The number of bytes of that kind that stand one after the other from `at` on; 0 past the end.
 pub fn run(s: &[u8], at: usize, kind: Kind) -> usize

@@ -1,12 +1,16 @@
 -- `padded_word` meets its promise: the four bytes are the padded message's.
 use borrow.Author.Needs.{needs}
-use Rattle.block.specs.Padding.{paddedWord}
+use mathlib.Core.Path.{_∙_}
+use Rattle.block.specs.Padding.{little, word, paddedWord}
 use Rattle.block.proofs.padded_word.Statement.{statement}
 use Rattle.block.proofs.padded_word.Tie as tie
 
 returns : tie.Need-returns
 unfolding paddedWord
-returns c = cc
+returns c =
+    c .joined .ensures
+    ∙ (λ i. word little (c .before .before .before .before .byte .ensures i) (c .before .before .before .byte2 .ensures i)
+    (c .before .before .byte3 .ensures i) (c .before .byte4 .ensures i))
 
 pub padded-word-spec : {M : Type 1} → statement M
 padded-word-spec =

@@ -12,7 +12,7 @@ use Rattle.refusal.specs.declared.Checked.{Checked}
 use Rattle.refusal.specs.declared.Reading.{Reading}
 use Rattle.refusal.specs.declared.Refusal.{Refusal}
 use Rattle.text.specs.Front.{Writes}
-use Rattle.password.specs.Checks.{phraseChecked}
+use Rattle.inputs.specs.Checks.{phraseChecked}
 use Rattle.password.specs.Password.{Algorithm, password}
 use Rattle.challenge.specs.declared.reading.Challenge.{Challenge}
 use Rattle.challenge.specs.Challenges.{challengeOf, seedOf}

@@ -10,8 +10,8 @@ use Rattle.refusal.specs.declared.Refusal.{Refusal}
 use Rattle.refusal.specs.declared.Checked.{Checked}
 use Rattle.refusal.specs.declared.Written.{Written}
 use Rattle.text.specs.Front.{Put, writtenOf, leaves}
-use Rattle.password.specs.Checks.{seedChecked}
-use Rattle.password.specs.Laws.{good-seed}
+use Rattle.inputs.specs.Checks.{seedChecked}
+use Rattle.inputs.specs.Laws.{good-seed}
 use Rattle.challenge.specs.Counts.{widthOf}
 use Rattle.challenge.specs.Challenges.{challengeText, challengeWritten}
 use Rattle.challenge.specs.Laws.{width-few, length-challenge}

@@ -5,7 +5,7 @@ use borrow.Author.Needs.{needs}
 use borrow.Author.Tests.{ltb-true}
 use native.Mathlib.Omega.{arith}
 use lib.ListN.{length, length-map, set}
-use Rattle.password.specs.Laws.{good-seed}
+use Rattle.inputs.specs.Laws.{good-seed}
 use Rattle.line.specs.Laws.{unmapped}
 use Rattle.login.specs.Table.{Room, view, roomOf, placeOf}
 use Rattle.login.specs.Steps.{done}

@@ -6,7 +6,7 @@ use borrow.Author.Needs.{needs}
 use native.Mathlib.Omega.{arith}
 use Rattle.refusal.specs.declared.Checked.{Checked}
 use Rattle.refusal.specs.declared.Reading.{Reading}
-use Rattle.password.specs.Laws.{good-seed}
+use Rattle.inputs.specs.Laws.{good-seed}
 use Rattle.reply.specs.Reading.{readingOf}
 use Rattle.login.specs.declared.table.Replied.{Replied}
 use Rattle.login.specs.Table.{Room, State, view, roomOf, accountOf, turnId}

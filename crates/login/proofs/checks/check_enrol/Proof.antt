@@ -8,7 +8,7 @@ use native.Mathlib.Omega.{arith}
 use lib.Dec.{leb, eqb, ltb}
 use lib.ListN.{length, length-map}
 use Rattle.refusal.specs.declared.Checked.{Checked}
-use Rattle.password.specs.Checks.{seedChecked}
+use Rattle.inputs.specs.Checks.{seedChecked}
 use Rattle.line.specs.Laws.{unmapped}
 use Rattle.login.specs.Table.{State, view, holds, placeOf, roomOf}
 use Rattle.login.proofs.Rooms.{there, missing}

@@ -12,7 +12,7 @@ use lib.Seq.{length-take-le}
 use Rattle.text.specs.Tests.{same}
 use Rattle.refusal.specs.declared.Checked.{Checked}
 use Rattle.text.specs.Kinds.{lowerOf}
-use Rattle.password.specs.Checks.{seedChecked}
+use Rattle.inputs.specs.Checks.{seedChecked}
 use Rattle.line.specs.Laws.{all-taken}
 use Rattle.login.specs.Table.{roomOf}
 use Rattle.login.proofs.Order.{new-51, new-seed, new-63, new-good}

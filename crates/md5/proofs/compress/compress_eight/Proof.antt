@@ -5,10 +5,10 @@ use mathlib.Core.List.{List, [], _∷_, _++_}
 use borrow.Author.Needs.{needs}
 use Rattle.block.specs.Lists.{upTo}
 use Rattle.block.specs.Padding.{paddedByte, paddedWord, blockAt, absorbed}
-use Rattle.md5.specs.declared.State.{State}
-use Rattle.md5.specs.Md5.{round1, round2, round3, round4, bytes4, compressed, initial, registers}
+use Rattle.rounds.specs.Rounds.{round1, round2, round3, round4, compressed}
+use Rattle.rounds.specs.TurnLaws.{compressed-by-sums}
+use Rattle.md5.specs.Md5.{bytes4, initial, registers}
 use Rattle.md5.specs.Laws.{word-bytes4}
-use Rattle.md5.proofs.Sums.{compressed-by-sums}
 use Rattle.md5.proofs.compress.compress_eight.Statement.{statement}
 use Rattle.md5.proofs.compress.compress_eight.Tie as tie
 

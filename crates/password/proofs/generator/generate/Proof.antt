@@ -3,9 +3,10 @@ use mathlib.Core.Path.{_≡_, sym, ap, _∙_}
 use borrow.Author.Needs.{needs}
 use Rattle.refusal.specs.declared.Checked.{Checked}
 use Rattle.refusal.specs.declared.Reading.{Reading}
-use Rattle.password.specs.Checks.{phraseChecked, seedChecked}
+use Rattle.inputs.specs.Checks.{phraseChecked, seedChecked}
+use Rattle.inputs.specs.Laws.{good-phrase, good-seed}
 use Rattle.password.specs.Password.{Algorithm}
-use Rattle.password.specs.Laws.{good-phrase, good-seed, refused-phrase, refused-seed, refused-count, generated-good}
+use Rattle.password.specs.Laws.{refused-phrase, refused-seed, refused-count, generated-good}
 use Rattle.password.specs.Inside.{chained}
 use Rattle.password.proofs.Chain.{chained-password}
 use Rattle.password.proofs.generator.generate.Statement.{statement}

@@ -8,7 +8,7 @@ use native.Mathlib.Omega.{arith}
 use Rattle.md5.specs.Md5.{md5, bytes4, registers}
 use Rattle.md5.specs.Laws.{bytes4-word}
 use Rattle.password.specs.Password.{hash, bytesOf}
-use Rattle.password.proofs.Fold.{foldedOf}
+use Rattle.password.proofs.Folded.{foldedOf}
 use Rattle.password.proofs.hash.step.Statement.{statement}
 use Rattle.password.proofs.hash.step.Tie as tie
 

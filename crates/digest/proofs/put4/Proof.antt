@@ -1,0 +1,26 @@
+-- `put4` meets its promise: four stores at the front.
+use Prim.Native.Nat.{ℕ, _%_, _/_}
+use mathlib.Core.Path.{refl}
+use mathlib.Core.List.{_∷_, []}
+use borrow.Author.Needs.{needs}
+use native.Mathlib.Omega.{arith}
+use lib.ListN.{length-set}
+use lib.Seq.{sets-eq}
+use Rattle.md5.specs.Md5.{bytes4}
+use Rattle.digest.proofs.put4.Statement.{statement}
+use Rattle.digest.proofs.put4.Tie as tie
+
+pub put4-spec : {M : Type 1} → statement M
+put4-spec =
+    tie.close
+    (tie.spec
+    (λ c. search needs)
+    (λ c. search needs)
+    (λ c. search needs)
+    (λ c. simp length-set (omega arith))
+    (λ c. search needs)
+    (λ c. simp length-set (omega arith))
+    (λ c. search needs)
+    (λ c. search needs)
+    (λ c. search needs)
+    (λ c. (refl, sets-eq (bytes4 (c .args .x)) (c .args .buf .now) 0 (c .pre))))

@@ -1,0 +1,3 @@
+-- The definition that the promise of `digest` cites.
+pub mod Digest
+pub mod Determined

@@ -1,0 +1,2 @@
+-- What the proofs of `rounds`'s functions share.
+pub mod Fours
