@@ -1,21 +1,25 @@
--- The promises of `refusal` and `text` determine their results.
+-- The promises of `refusal`, `text` and `digits` determine their results.
 use mathlib.Core.Path.{sym, _∙_}
 use denote.Ref.{now}
 use Rattle.refusal.proofs.listing_of.Reads as listing-of
-use Rattle.text.proofs.kinds.of_kind.Reads as of-kind
+use Rattle.text.proofs.kinds.is_letter.Reads as is-letter
+use Rattle.text.proofs.kinds.is_white.Reads as is-white
 use Rattle.text.proofs.kinds.lower.Reads as lower
 use Rattle.text.proofs.kinds.upper.Reads as upper
 use Rattle.text.proofs.scan.run.Reads as run
-use Rattle.text.proofs.digits.digit_value.Reads as digit-value
-use Rattle.text.proofs.digits.spell.Reads as spell
 use Rattle.text.proofs.put.copy.Reads as copy
+use Rattle.digits.proofs.digit_value.Reads as digit-value
+use Rattle.digits.proofs.spell.Reads as spell
 use Rattle.demands.specs.Determined.{Answers, AnswersAndLent, both}
 
 pub listing-of-determined : Answers listing-of.Learnt
 listing-of-determined k a y z e f p q = p ∙ sym q
 
-pub of-kind-determined : Answers of-kind.Learnt
-of-kind-determined k a y z e f p q = p ∙ sym q
+pub is-letter-determined : Answers is-letter.Learnt
+is-letter-determined k a y z e f p q = p ∙ sym q
+
+pub is-white-determined : Answers is-white.Learnt
+is-white-determined k a y z e f p q = p ∙ sym q
 
 pub lower-determined : Answers lower.Learnt
 lower-determined k a y z e f p q = p ∙ sym q
@@ -26,11 +30,11 @@ upper-determined k a y z e f p q = p ∙ sym q
 pub run-determined : Answers run.Learnt
 run-determined k a y z e f p q = p ∙ sym q
 
+pub copy-determined : AnswersAndLent copy.Learnt (λ k e. now (e .0))
+copy-determined k a y z e f p q = both p q
+
 pub digit-value-determined : Answers digit-value.Learnt
 digit-value-determined k a y z e f p q = p ∙ sym q
 
 pub spell-determined : AnswersAndLent spell.Learnt (λ k e. now (e .0))
 spell-determined k a y z e f p q = both p q
-
-pub copy-determined : AnswersAndLent copy.Learnt (λ k e. now (e .0))
-copy-determined k a y z e f p q = both p q
