@@ -8,7 +8,7 @@ use Rattle.bytes.specs.Bytes.{indexOf}
 use Rattle.refusal.specs.declared.Refusal.{Refusal}
 use Rattle.refusal.specs.declared.Checked.{Checked}
 use Rattle.refusal.specs.Numbers.{listingOf}
-use Rattle.digits.specs.Digits.{numberOf}
+use Rattle.text.specs.Digits.{numberOf}
 use Rattle.text.specs.Quoted.{codes}
 use Rattle.challenge.specs.Counts.{isCount, decimalOf}
 use Rattle.cards.specs.Cards.{cardChecked, cardOf}

@@ -4,7 +4,7 @@ use mathlib.Core.List.{List, [], _∷_, _++_, map, flatten}
 use Prim.Native.Nat.{ℕ}
 use Rattle.bytes.specs.Bytes.{indexOf, indexAfter}
 use Rattle.text.specs.Scan.{runOf}
-use Rattle.digits.specs.Digits.{digitsOf, numberAfter}
+use Rattle.text.specs.Digits.{digitsOf, numberAfter}
 use Rattle.text.specs.Quoted.{codes}
 use Rattle.text.specs.Tests.{every, same}
 use Rattle.block.specs.Lists.{upTo}

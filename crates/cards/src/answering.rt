@@ -10,10 +10,10 @@ use crate::writing::write_card;
 use challenge::counts::Counted;
 use challenge::counts::put_count;
 use challenge::counts::read_count;
+use put::copy;
 use refusal::Refusal;
 use refusal::Written;
 use refusal::listing_of;
-use text::put::copy;
 
 // Where the first line of a text ends: at its newline, or with the text.
 fn line_end(s: &[u8]) -> usize

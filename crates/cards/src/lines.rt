@@ -10,11 +10,11 @@ ghost use Rattle.cards.specs.Cards.{lineOf, cardText};
 ghost use Rattle.cards.specs.Inside.{at as passwordAt};
 use challenge::counts::width;
 use challenge::writing::put_count_space;
+use put::copy;
 use refusal::Written;
 use reply::words_length;
 use reply::write_hex;
 use reply::write_words;
-use text::put::copy;
 
 // A password in hex and a space.
 fn put_hex_space(buf: &mut [u8], p: u64) -> usize

@@ -13,8 +13,8 @@ use lib.Seq.{drop-cons}
 use borrow.Author.Tests.{leb-true}
 use Rattle.text.specs.Kinds.{isDigit}
 use Rattle.text.specs.Tests.{every, both}
-use Rattle.digits.specs.Digits.{digitValue, numberAfter}
-use Rattle.digits.specs.DigitLaws.{value-digit}
+use Rattle.text.specs.Digits.{digitValue, numberAfter}
+use Rattle.text.specs.DigitLaws.{value-digit}
 
 -- fewer than four digits stand for less than 1,000
 pub few : (n i l : ℕ) → n < 10 ^ i → i < l → l ≤ 4 → n < 1000

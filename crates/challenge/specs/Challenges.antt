@@ -10,7 +10,7 @@ use Rattle.refusal.specs.declared.Written.{Written}
 use Rattle.refusal.specs.Checks.{unless, must}
 use Rattle.text.specs.Kinds.{inToken, isBlank, lowerOf}
 use Rattle.text.specs.Scan.{runOf}
-use Rattle.digits.specs.Digits.{numberOf}
+use Rattle.text.specs.Digits.{numberOf}
 use Rattle.text.specs.Front.{writtenOf}
 use Rattle.text.specs.Tests.{same}
 use Rattle.text.specs.Quoted.{codes}

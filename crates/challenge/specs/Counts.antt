@@ -6,7 +6,7 @@ use lib.Dec.{leb, ltb, eqb}
 use lib.ListN.{length, getD}
 use Rattle.text.specs.Kinds.{isDigit}
 use Rattle.text.specs.Tests.{every}
-use Rattle.digits.specs.Digits.{digitsOf, numberOf}
+use Rattle.text.specs.Digits.{digitsOf, numberOf}
 use Rattle.challenge.specs.declared.counts.Counted.{Counted}
 
 -- "without a leading zero (a lone `0` is good)": more than one byte, the first a `0`

@@ -4,7 +4,7 @@ use mathlib.Core.List.{List, [], _∷_, _++_, map}
 use Prim.Native.Nat.{ℕ}
 use Rattle.refusal.specs.declared.Refusal.{Refusal}
 use Rattle.text.specs.Scan.{runOf}
-use Rattle.digits.specs.Digits.{numberAfter}
+use Rattle.text.specs.Digits.{numberAfter}
 use Rattle.text.specs.Quoted.{codes}
 use Rattle.text.specs.Tests.{every, same}
 use Rattle.inputs.specs.Checks.{plain}

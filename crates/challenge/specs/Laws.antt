@@ -14,8 +14,8 @@ use Rattle.refusal.specs.declared.Checked.{Checked}
 use Rattle.refusal.specs.Checks.{unless, must}
 use Rattle.text.specs.Quoted.{codes}
 use Rattle.text.specs.Kinds.{inToken, isBlank, isDigit}
-use Rattle.digits.specs.Digits.{digitValue, numberOf}
-use Rattle.digits.specs.DigitLaws.{value-digit, number-lt, length-digits}
+use Rattle.text.specs.Digits.{digitValue, numberOf}
+use Rattle.text.specs.DigitLaws.{value-digit, number-lt, length-digits}
 use Rattle.inputs.specs.Checks.{seedChecked}
 use Rattle.challenge.specs.declared.counts.Counted.{Counted}
 use Rattle.challenge.specs.declared.reading.Challenge.{Challenge}

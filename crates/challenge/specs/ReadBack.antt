@@ -14,8 +14,8 @@ use Rattle.text.specs.Kinds.{inToken, isBlank, isDigit, isLetter, isUpper, isLo
 use Rattle.text.specs.Tests.{every, every-append, every-weaker, second-fails, both, either, cases, same, same-self}
 use Rattle.text.specs.Scan.{runOf}
 use Rattle.text.specs.ScanLaws.{run-until}
-use Rattle.digits.specs.Digits.{digitOf, digitsOf, numberOf}
-use Rattle.digits.specs.DigitLaws.{number-digits}
+use Rattle.text.specs.Digits.{digitOf, digitsOf, numberOf}
+use Rattle.text.specs.DigitLaws.{number-digits}
 use Rattle.text.specs.Quoted.{codes}
 use Rattle.inputs.specs.Checks.{plain, seedChecked}
 use Rattle.inputs.specs.Laws.{good-seed}

@@ -6,13 +6,13 @@ ghost use Prim.Native.Nat.{_+_, _≤_};
 ghost use lib.ListN.{length};
 ghost use Rattle.text.specs.Kinds.{isDigit};
 ghost use Rattle.text.specs.Tests.{every};
-ghost use Rattle.digits.specs.Digits.{numberOf};
+ghost use Rattle.text.specs.Digits.{numberOf};
 ghost use Rattle.text.specs.Front.{Put};
 ghost use Rattle.challenge.specs.Counts.{countedOf, widthOf, decimalOf};
-use digits::digit_value;
-use digits::spell;
+use put::spell;
+use scan::digit_value;
+use scan::run;
 use text::kinds::Kind;
-use text::scan::run;
 
 // A token's count, if it is one.
 pub enum Counted {

@@ -9,8 +9,8 @@ use crate::counts::read_count;
 use inputs::check_seed;
 use refusal::Checked;
 use refusal::Refusal;
+use scan::run;
 use text::kinds::Kind;
-use text::scan::run;
 
 // The four bytes that every challenge starts with, and the name of its algorithm.
 pub const OPENING: [u8; 4] = [b'o', b't', b'p', b'-'];

@@ -13,10 +13,10 @@ use crate::reading::ALGORITHM;
 use crate::reading::OPENING;
 use inputs::check_seed;
 use inputs::put_lower;
+use put::copy;
 use refusal::Checked;
 use refusal::Refusal;
 use refusal::Written;
-use text::put::copy;
 
 // The opening, the algorithm's name and a space.
 fn put_head(buf: &mut [u8]) -> usize

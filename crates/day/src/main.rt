@@ -82,8 +82,7 @@ fn ticks(table: Table, n: u32) -> Table {
 
 // The password of the day's pass-phrase.
 fn password_at(seed: &[u8], count: u32) -> u64 {
-    let Reading::Password(p) = password::generator::generate(b"A_Valid_Pass_Phrase", seed, count)
-    else {
+    let Reading::Password(p) = generator::generate(b"A_Valid_Pass_Phrase", seed, count) else {
         return 0;
     };
     p

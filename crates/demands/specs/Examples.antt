@@ -6,7 +6,7 @@ use Rattle.refusal.specs.declared.Refusal.{Refusal}
 use Rattle.refusal.specs.declared.Reading.{Reading}
 use Rattle.text.specs.Tests.{every}
 use Rattle.text.specs.Scan.{runOf, parted, unspaced}
-use Rattle.digits.specs.Digits as Digits
+use Rattle.text.specs.Digits as Digits
 use Rattle.text.specs.Quoted.{codes}
 use Rattle.inputs.specs.Checks.{plain}
 use Rattle.dictionary.specs.Words.{wordsIn, lines, words}

@@ -5,8 +5,8 @@ use mathlib.Core.List.{List, [], _∷_, _++_, map, flatten}
 use lib.ListN.{replicate}
 use Rattle.text.specs.Tests.{every}
 use Rattle.text.specs.Scan.{runOf, parted, unspaced}
-use Rattle.digits.specs.Digits as Digits
-use Rattle.digits.specs.Digits.{digitsOf}
+use Rattle.text.specs.Digits as Digits
+use Rattle.text.specs.Digits.{digitsOf}
 use Rattle.text.specs.Quoted.{codes}
 use Rattle.block.specs.Lists.{upTo}
 use Rattle.block.specs.Padding.{paddedByte, paddedWord, blockAt, absorbed}

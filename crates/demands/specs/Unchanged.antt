@@ -13,7 +13,7 @@ use Rattle.refusal.specs.declared.Reading.{Reading}
 use Rattle.refusal.specs.Numbers.{listingOf}
 use Rattle.refusal.specs.Checks.{unless}
 use Rattle.text.specs.Tests.{every, both}
-use Rattle.digits.specs.Digits.{numberOf}
+use Rattle.text.specs.Digits.{numberOf}
 use Rattle.text.specs.Scan.{tokens, unspaced}
 use Rattle.password.specs.Password.{Algorithm, bytesOf, hash}
 use Rattle.dictionary.specs.declared.Found.{Found}

@@ -1,3 +1,4 @@
--- The definition that the promise of `digest` cites.
+-- The definition that the promise of `digest` cites, and worked examples.
 pub mod Digest
+pub mod Examples
 pub mod Determined

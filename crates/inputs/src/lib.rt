@@ -25,7 +25,7 @@ pub fn check_phrase(phrase: &[u8]) -> Checked
 fn is_plain(s: &[u8]) -> bool
     ensures { λ r. ⌜ r ≡ plain (now (s .entry)) ⌝ }
 {
-    text::scan::run(s, 0, text::kinds::Kind::LetterOrDigit) == s.len()
+    scan::run(s, 0, text::kinds::Kind::LetterOrDigit) == s.len()
 }
 
 pub fn check_seed(seed: &[u8]) -> Checked

@@ -2,5 +2,4 @@
 pub mod Md5
 pub mod Inside
 pub mod Laws
-pub mod Examples
 pub mod Determined

@@ -1,12 +1,12 @@
 // Repeats one call of the login table, for the benchmark: the call's letter, 0, 1 or 3 for 0, 1 or 32 accounts, and how many thousand times.
 use challenge::counts::Counted;
 use eight_bytes::bytes_of;
+use generator::generate;
 use libc::STDIN_FILENO;
 use libc::STDOUT_FILENO;
 use login::calls;
 use login::table::Table;
 use login::table::fresh;
-use password::generator::generate;
 use password::hash::step;
 use refusal::Reading;
 

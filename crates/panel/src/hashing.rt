@@ -21,5 +21,5 @@ pub extern "C" fn lift_md5(text: &[u8], digest: &mut [u8]) -> LiftWritten
 pub extern "C" fn lift_password(phrase: &[u8], seed: &[u8], count: u32) -> LiftReading
     ensures { λ r. ⌜ r ≡ readingRow (Password.generated Password.md5 (now (phrase .entry)) (now (seed .entry)) count) ⌝ }
 {
-    reading_row(password::generator::generate(phrase, seed, count))
+    reading_row(generator::generate(phrase, seed, count))
 }

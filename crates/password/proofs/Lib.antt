@@ -1,3 +1,2 @@
 -- What the proofs of `password`'s functions share.
 pub mod Folded
-pub mod Chain

@@ -2,6 +2,5 @@
 pub mod Password
 pub mod Inside
 pub mod Laws
-pub mod Examples
 pub mod Determined
 pub mod Bounds

@@ -1,12 +1,9 @@
-// The folded hash of a message.
+// The fold of a digest.
 ghost use mathlib.Core.Path.{_≡_};
 ghost use mathlib.Core.List.{_++_};
-ghost use Prim.Native.Nat.{_≤_};
-ghost use lib.ListN.{length};
 ghost use Rattle.md5.specs.Md5 as Md5;
 ghost use Rattle.password.specs.Password as spec;
 ghost use Rattle.password.specs.Inside.{high4};
-use md5::compress::registers;
 use rounds::State;
 
 // A register's four bytes as a number, first byte most significant. MD5 writes the low-order byte first.
@@ -22,12 +19,4 @@ pub fn folded(q: State) -> u64
     ensures { λ r. ⌜ r ≡ spec.numberOf (spec.fold (Md5.bytes4 (q .a) ++ Md5.bytes4 (q .b) ++ Md5.bytes4 (q .c) ++ Md5.bytes4 (q .d))) ⌝ }
 {
     read_high(q.a ^ q.c) * 4294967296 + read_high(q.b ^ q.d)
-}
-
-// The folded hash of a message.
-pub fn hash(m: &[u8]) -> u64
-    requires { ⌜ length (now m) ≤ 4096 ⌝ }
-    ensures { λ r. ⌜ r ≡ spec.hash spec.md5 (now (m .entry)) ⌝ }
-{
-    folded(registers(m))
 }

@@ -1,8 +1,6 @@
-// From pass-phrase to password: the folded hash, the chain, the generator.
+// The hash that passwords are made with: MD5, folded.
 
-// The folded hash of a message.
+// The fold of a digest.
 mod fold;
-// One step of the chain: the folded hash of a password.
+// The folded hash of a message, and of a password: one step of the chain.
 pub mod hash;
-// The password of a pass-phrase, a seed and a count.
-pub mod generator;

@@ -16,8 +16,8 @@ use Rattle.refusal.specs.declared.Reading.{Reading}
 use Rattle.text.specs.Kinds.{isWhite}
 use Rattle.text.specs.Tests.{every, second-fails}
 use Rattle.text.specs.Scan.{unspaced}
-use Rattle.digits.specs.Digits.{isHex, digitValue, numberAfter}
-use Rattle.digits.specs.DigitLaws.{hex-value}
+use Rattle.text.specs.Digits.{isHex, digitValue, numberAfter}
+use Rattle.text.specs.DigitLaws.{hex-value}
 use Rattle.reply.specs.Reading.{sixteenDigits, hexReading}
 use Rattle.reply.specs.Inside.{hexAfter}
 

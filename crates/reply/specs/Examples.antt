@@ -7,7 +7,7 @@ use Rattle.refusal.specs.declared.Refusal.{Refusal}
 use Rattle.refusal.specs.declared.Reading.{Reading}
 use Rattle.text.specs.Tests.{every, same}
 use Rattle.text.specs.Scan.{runOf, parted, unspaced}
-use Rattle.digits.specs.Digits.{digitsOf, numberAfter}
+use Rattle.text.specs.Digits.{digitsOf, numberAfter}
 use Rattle.text.specs.Quoted.{codes}
 use Rattle.dictionary.specs.Words.{wordsIn, lines, words}
 use Rattle.dictionary.specs.Dictionary.{standsFrom, placeOf}

@@ -9,7 +9,7 @@ use Rattle.refusal.specs.declared.Reading.{Reading}
 use Rattle.text.specs.Kinds.{isWhite, isSolid}
 use Rattle.text.specs.Tests.{every}
 use Rattle.text.specs.Scan.{runOf}
-use Rattle.digits.specs.Digits.{isHex, numberAfter}
+use Rattle.text.specs.Digits.{isHex, numberAfter}
 use Rattle.dictionary.specs.Dictionary.{packed}
 use Rattle.reply.specs.declared.tokens.Word.{Word}
 use Rattle.reply.specs.declared.tokens.Six.{Six}

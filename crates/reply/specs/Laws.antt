@@ -17,8 +17,8 @@ use Rattle.text.specs.Kinds.{isSolid, lowerOf}
 use Rattle.text.specs.Tests.{every, every-weaker, both}
 use Rattle.text.specs.Scan.{parted, tokens, unspaced}
 use Rattle.text.specs.ScanLaws.{tokens-one, unspaced-solid}
-use Rattle.digits.specs.Digits.{isHex, digitsOf, digitValue, numberAfter, numberOf}
-use Rattle.digits.specs.DigitLaws.{length-digits, digits-hex, hex-solid, number-digits, digits-number, number-lt, number-lower, every-lower-hex, hex-digits}
+use Rattle.text.specs.Digits.{isHex, digitsOf, digitValue, numberAfter, numberOf}
+use Rattle.text.specs.DigitLaws.{length-digits, digits-hex, hex-solid, number-digits, digits-number, number-lt, number-lower, every-lower-hex, hex-digits}
 use Rattle.text.specs.Front.{Writes}
 use Rattle.text.specs.FrontLaws.{written-front}
 use Rattle.dictionary.specs.declared.Found.{Found}

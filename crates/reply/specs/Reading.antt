@@ -13,7 +13,7 @@ use Rattle.sixwords.specs.Places.{numberOf as placesNumber}
 use Rattle.text.specs.Kinds.{isLetter, upperOf}
 use Rattle.text.specs.Tests.{every}
 use Rattle.text.specs.Scan.{tokens, unspaced}
-use Rattle.digits.specs.Digits.{isHex, numberOf}
+use Rattle.text.specs.Digits.{isHex, numberOf}
 
 -- "one to four ASCII letters"
 unfoldable pub isWord : List ℕ → Bool

@@ -13,7 +13,7 @@ use Rattle.refusal.specs.declared.Reading.{Reading}
 use Rattle.refusal.specs.Numbers.{listingOf}
 use Rattle.text.specs.Tests.{every, cases, both}
 use Rattle.text.specs.Scan.{tokens, unspaced}
-use Rattle.digits.specs.Digits.{numberOf}
+use Rattle.text.specs.Digits.{numberOf}
 use Rattle.dictionary.specs.declared.Found.{Found}
 use Rattle.dictionary.specs.Dictionary.{wordAt, placeOf}
 use Rattle.dictionary.specs.Laws.{Spelt, found-word}

@@ -3,7 +3,7 @@ use Prim.Native.Nat.{ℕ}
 use mathlib.Core.List.{List, [], _∷_, _++_, map}
 use Rattle.dictionary.specs.Dictionary.{wordAt}
 use Rattle.sixwords.specs.Places.{placesOf}
-use Rattle.digits.specs.Digits.{digitsOf}
+use Rattle.text.specs.Digits.{digitsOf}
 
 -- "Written hex is 16 lower-case digits"
 abbrev pub hexOf : ℕ → List ℕ

@@ -1,7 +1,7 @@
 // A reply read as hex.
-use digits::digit_value;
 use refusal::Reading;
 use refusal::Refusal;
+use scan::digit_value;
 use text::kinds::is_white;
 ghost use mathlib.Core.Path.{_≡_};
 ghost use Rattle.text.specs.Scan.{unspaced};

@@ -1,5 +1,5 @@
 // Replies: a password written as hex or as six words, and read from what was typed. Document 01, 'Six words and hex'.
-use digits::spell;
+use put::spell;
 use refusal::Reading;
 use refusal::Refusal;
 use refusal::Written;

@@ -1,8 +1,8 @@
 // The tokens of a reply as packed words of the dictionary.
+use scan::run;
 use text::kinds::Kind;
 use text::kinds::is_letter;
 use text::kinds::upper;
-use text::scan::run;
 ghost use mathlib.Core.Path.{_≡_};
 ghost use Prim.Native.Nat.{_≤_, _<_, _*_, _-_, _^_};
 ghost use Rattle.text.specs.Scan.{tokens};

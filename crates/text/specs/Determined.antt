@@ -13,13 +13,14 @@ use Rattle.text.specs.Front.{Put}
 pub test-determined : (kind : Kind) (b : ℕ) (r s : Bool) → r ≡ ofKind kind b → s ≡ ofKind kind b → r ≡ s
 test-determined kind b r s p q = p ∙ sym q
 
--- a byte from a byte: `lower` and `upper`, and `digit_value` of `digits`, with f their definition
+-- a byte from a byte: `lower` and `upper`, and `digit_value` of `scan`, with f their definition
 pub byte-determined : (f : ℕ → ℕ) (b r s : ℕ) → r ≡ f b → s ≡ f b → r ≡ s
 byte-determined f b r s p q = p ∙ sym q
 
+-- `run` of `scan`
 pub run-determined : (kind : Kind) (text : List ℕ) (at r s : ℕ) → r ≡ runOf (ofKind kind) (drop at text) → s ≡ runOf (ofKind kind) (drop at text) → r ≡ s
 run-determined kind text at r s p q = p ∙ sym q
 
--- `copy`, and `spell` of `digits`: the count, and what is left in the buffer
+-- `copy` and `spell` of `put`: the count, and what is left in the buffer
 pub put-determined : (t b c d : List ℕ) (r s : ℕ) → Put t b c r → Put t b d s → (r ≡ s) × (c ≡ d)
 put-determined t b c d r s p q = (p .0 ∙ sym (q .0), p .1 ∙ sym (q .1))

@@ -1,10 +1,12 @@
--- The definitions that the promises of `text` cite, and their laws.
+-- The definitions that promises on texts cite, of `text` and of the crates above it, and their laws.
 pub mod Kinds
 pub mod Scan
+pub mod Digits
 pub mod Front
 pub mod Quoted
 pub mod Tests
 pub mod KindLaws
 pub mod ScanLaws
+pub mod DigitLaws
 pub mod FrontLaws
 pub mod Determined

@@ -1,4 +1,2 @@
-// Texts as bytes: the kinds of bytes that document 01 names, runs of a kind, and a text at the front of a buffer.
+// Texts as bytes: the kinds of bytes that document 01 names, and the two cases of a letter.
 pub mod kinds;
-pub mod put;
-pub mod scan;

@@ -32,7 +32,7 @@ fn row(phrase: &[u8], seed: &[u8], count: u32) {
     io::write_all(STDOUT_FILENO, b"\t");
     io::print_decimal(STDOUT_FILENO, count as u64);
     io::write_all(STDOUT_FILENO, b"\t");
-    if let Reading::Password(p) = password::generator::generate(phrase, seed, count) {
+    if let Reading::Password(p) = generator::generate(phrase, seed, count) {
         both_texts(p);
     }
     io::write_all(STDOUT_FILENO, b"\n");

@@ -1,4 +1,4 @@
--- The promises of `block`, `rounds`, `md5`, `digest`, `inputs`, `password` and `eight_bytes` determine their results.
+-- The promises of `block`, `rounds`, `md5`, `digest`, `inputs`, `password`, `generator` and `eight_bytes` determine their results.
 use mathlib.Core.Path.{sym, _∙_}
 use denote.Ref.{now}
 use Rattle.block.proofs.count.Reads as count
@@ -10,8 +10,9 @@ use Rattle.digest.proofs.digest.Reads as digest
 use Rattle.inputs.proofs.check_phrase.Reads as check-phrase
 use Rattle.inputs.proofs.check_seed.Reads as check-seed
 use Rattle.inputs.proofs.put_lower.Reads as put-lower
+use Rattle.password.proofs.hash.hash.Reads as hash
 use Rattle.password.proofs.hash.step.Reads as step
-use Rattle.password.proofs.generator.generate.Reads as generate
+use Rattle.generator.proofs.generate.Reads as generate
 use Rattle.eight_bytes.proofs.number_of.Reads as number-of
 use Rattle.eight_bytes.proofs.bytes_of.Reads as bytes-of
 use Rattle.demands.specs.Determined.{Answers, AnswersAndLent, both, left}
@@ -42,6 +43,9 @@ check-seed-determined k a y z e f p q = p ∙ sym q
 
 pub put-lower-determined : AnswersAndLent put-lower.Learnt (λ k e. now (e .0))
 put-lower-determined k a y z e f p q = both p q
+
+pub hash-determined : Answers hash.Learnt
+hash-determined k a y z e f p q = p ∙ sym q
 
 pub step-determined : Answers step.Learnt
 step-determined k a y z e f p q = p ∙ sym q

@@ -1,4 +1,4 @@
--- The promises of `refusal`, `text` and `digits` determine their results.
+-- The promises of `refusal`, `text`, `scan` and `put` determine their results.
 use mathlib.Core.Path.{sym, _∙_}
 use denote.Ref.{now}
 use Rattle.refusal.proofs.listing_of.Reads as listing-of
@@ -6,10 +6,10 @@ use Rattle.text.proofs.kinds.is_letter.Reads as is-letter
 use Rattle.text.proofs.kinds.is_white.Reads as is-white
 use Rattle.text.proofs.kinds.lower.Reads as lower
 use Rattle.text.proofs.kinds.upper.Reads as upper
-use Rattle.text.proofs.scan.run.Reads as run
-use Rattle.text.proofs.put.copy.Reads as copy
-use Rattle.digits.proofs.digit_value.Reads as digit-value
-use Rattle.digits.proofs.spell.Reads as spell
+use Rattle.scan.proofs.run.Reads as run
+use Rattle.scan.proofs.digit_value.Reads as digit-value
+use Rattle.put.proofs.copy.Reads as copy
+use Rattle.put.proofs.spell.Reads as spell
 use Rattle.demands.specs.Determined.{Answers, AnswersAndLent, both}
 
 pub listing-of-determined : Answers listing-of.Learnt
@@ -30,11 +30,11 @@ upper-determined k a y z e f p q = p ∙ sym q
 pub run-determined : Answers run.Learnt
 run-determined k a y z e f p q = p ∙ sym q
 
-pub copy-determined : AnswersAndLent copy.Learnt (λ k e. now (e .0))
-copy-determined k a y z e f p q = both p q
-
 pub digit-value-determined : Answers digit-value.Learnt
 digit-value-determined k a y z e f p q = p ∙ sym q
+
+pub copy-determined : AnswersAndLent copy.Learnt (λ k e. now (e .0))
+copy-determined k a y z e f p q = both p q
 
 pub spell-determined : AnswersAndLent spell.Learnt (λ k e. now (e .0))
 spell-determined k a y z e f p q = both p q

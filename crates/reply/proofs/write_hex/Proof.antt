@@ -1,7 +1,7 @@
 -- `write_hex` meets its promise.
 use borrow.Author.Needs.{needs}
 use native.Mathlib.Omega.{arith}
-use Rattle.digits.specs.DigitLaws.{length-digits}
+use Rattle.text.specs.DigitLaws.{length-digits}
 use Rattle.text.specs.FrontLaws.{put-writes, short-writes}
 use Rattle.reply.specs.Writing.{hexOf}
 use Rattle.reply.proofs.write_hex.Statement.{statement}

@@ -7,7 +7,7 @@ use mathlib.Core.Bool.{Bool, cond}
 use mathlib.Core.List.{List}
 use lib.Dec.{leb}
 use lib.ListN.{length}
-use Rattle.digits.specs.Digits.{numberOf}
+use Rattle.text.specs.Digits.{numberOf}
 use Rattle.text.specs.Tests.{second-fails}
 use Rattle.challenge.specs.declared.counts.Counted.{Counted}
 use Rattle.challenge.specs.Counts.{isCount, countedOf}

@@ -4,7 +4,7 @@ use Prim.Native.Nat.{ℕ, _≤_, _<_, _-_}
 use mathlib.Core.Path.{_≡_, refl, sym, _∙_, ap}
 use native.Mathlib.Omega.{arith}
 use lib.ListN.{length, drop, drop-of-length-le}
-use Rattle.digits.specs.Digits.{numberAfter, numberOf}
+use Rattle.text.specs.Digits.{numberAfter, numberOf}
 use Rattle.challenge.proofs.Numbers.{Reading, few, one-more}
 use Rattle.challenge.proofs.counts.number.Statement.{statement}
 use Rattle.challenge.proofs.counts.number.Tie as tie

@@ -2,7 +2,7 @@
 use borrow.Author.Needs.{needs}
 use Prim.Native.Nat.{ℕ}
 use mathlib.Core.Path.{_≡_, refl, sym, _∙_, ap}
-use Rattle.digits.specs.Digits.{digitsOf}
+use Rattle.text.specs.Digits.{digitsOf}
 use Rattle.text.specs.Front.{Put}
 use Rattle.challenge.proofs.counts.put_count.Statement.{statement}
 use Rattle.challenge.proofs.counts.put_count.Tie as tie

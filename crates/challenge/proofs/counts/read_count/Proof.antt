@@ -10,7 +10,7 @@ use borrow.Author.Tests.{le-leb, lt-leb, leb-true}
 use Rattle.text.specs.Kinds.{isDigit}
 use Rattle.text.specs.Scan.{runOf}
 use Rattle.text.specs.Tests.{every, both}
-use Rattle.digits.specs.Digits.{numberOf}
+use Rattle.text.specs.Digits.{numberOf}
 use Rattle.text.specs.ScanLaws.{run-whole}
 use Rattle.challenge.specs.declared.counts.Counted.{Counted}
 use Rattle.challenge.specs.Counts.{leadingZero, isCount, countedOf}

@@ -9,7 +9,7 @@ use native.Mathlib.Omega.{arith}
 use lib.ListN.{length, take, drop}
 use Rattle.refusal.specs.declared.Checked.{Checked}
 use Rattle.text.specs.Quoted.{codes}
-use Rattle.digits.specs.Digits.{numberOf}
+use Rattle.text.specs.Digits.{numberOf}
 use Rattle.inputs.specs.Checks.{seedChecked}
 use Rattle.text.specs.Tests.{same}
 use Rattle.challenge.specs.declared.counts.Counted.{Counted}
