@@ -4,4 +4,3 @@ pub mod Inside
 pub mod Laws
 pub mod Answers
 pub mod Examples
-pub mod Determined

@@ -4,4 +4,3 @@ pub mod Challenges
 pub mod Laws
 pub mod ReadBack
 pub mod Examples
-pub mod Determined

@@ -4,6 +4,5 @@ pub mod Dictionary
 pub mod Runs
 pub mod Order
 pub mod Laws
-pub mod Determined
 pub mod Examples
 pub mod Inside

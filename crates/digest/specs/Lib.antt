@@ -1,4 +1,3 @@
 -- The definition that the promise of `digest` cites, and worked examples.
 pub mod Digest
 pub mod Examples
-pub mod Determined

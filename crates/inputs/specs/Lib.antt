@@ -1,4 +1,3 @@
 -- The definitions that the promises of `inputs` cite, and their laws.
 pub mod Checks
 pub mod Laws
-pub mod Determined

@@ -9,5 +9,4 @@ pub mod Passed
 pub mod Tables
 pub mod Inside
 pub mod Calls
-pub mod Determined
 pub mod Examples

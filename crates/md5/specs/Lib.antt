@@ -2,4 +2,3 @@
 pub mod Md5
 pub mod Inside
 pub mod Laws
-pub mod Determined

@@ -1,3 +1,2 @@
 -- The definitions that the promises of `panel` cite.
 pub mod Answers
-pub mod Determined

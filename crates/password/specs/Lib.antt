@@ -2,5 +2,4 @@
 pub mod Password
 pub mod Inside
 pub mod Laws
-pub mod Determined
 pub mod Bounds

@@ -5,5 +5,4 @@ pub mod Inside
 pub mod WordLaws
 pub mod Laws
 pub mod Examples
-pub mod Determined
 pub mod Refusals

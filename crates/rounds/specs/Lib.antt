@@ -2,4 +2,3 @@
 pub mod Rounds
 pub mod Turns
 pub mod TurnLaws
-pub mod Determined

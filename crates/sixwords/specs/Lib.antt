@@ -1,5 +1,4 @@
 -- The definitions that the promises of `sixwords` cite, its laws and its examples.
 pub mod Places
 pub mod Laws
-pub mod Determined
 pub mod Examples

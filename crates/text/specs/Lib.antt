@@ -9,4 +9,3 @@ pub mod KindLaws
 pub mod ScanLaws
 pub mod DigitLaws
 pub mod FrontLaws
-pub mod Determined

@@ -1,2 +1,0 @@
--- That the promises of `eight_bytes` determine their results; what they say is in `password`.
-pub mod Determined
