@@ -13,7 +13,7 @@ byte-spec =
     (tie.spec
     (λ c. search needs)
     (λ c. sym (byte-message little _ _ (c .before .if1 .taken)))
-    (λ c. sym (byte-one little _ _ (c .if2 .taken)))
+    (λ c. let a = c .before .before .before .args in sym (byte-one little (a .m .now) (a .i) (c .if2 .taken)))
     (λ c κs. search needs)
     (λ c. search needs)
     (λ c. search needs)
@@ -22,4 +22,5 @@ byte-spec =
     (λ c. search needs)
     (λ c. search needs)
     (λ c. search needs)
-    (λ c. rw (c .before .count .ensures) (sym (byte-length little _ _ (omega arith) (omega arith)))))
+    (λ c. let a = c .before .before .before .before .before .args in
+    rw (c .before .count .ensures) (sym (byte-length little (a .m .now) (a .i) (omega arith) (omega arith)))))

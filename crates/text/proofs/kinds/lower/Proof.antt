@@ -1,6 +1,7 @@
--- `lower` meets its promise: each return computes with the tests that led to it.
+-- `lower` meets its promise: below the letters, above them, among them.
+use Prim.Native.Nat.{_+_}
 use borrow.Author.Needs.{needs}
-use borrow.Author.Tests.{le-leb, lt-leb}
+use Rattle.text.proofs.Ranges.{below, above, within}
 use Rattle.text.proofs.kinds.lower.Statement.{statement}
 use Rattle.text.proofs.kinds.lower.Tie as tie
 
@@ -8,7 +9,7 @@ pub lower-spec : {M : Type 1} → statement M
 lower-spec =
     tie.close
     (tie.spec
-    (λ c. simp (lt-leb 65 _ (c .if1 .taken)))
-    (λ c. simp (le-leb 65 _ (c .before .if1 .left), lt-leb _ 90 (c .if2 .taken)))
+    (λ c. let b = c .before .args .b in below 65 90 (b + 32) b (c .if1 .taken))
+    (λ c. let b = c .before .before .args .b in above 65 90 (b + 32) b (c .before .if1 .left) (c .if2 .taken))
     (λ c. search needs)
-    (λ c. simp (le-leb 65 _ (c .before .if1 .left), le-leb _ 90 (c .if2 .left))))
+    (λ c. let b = c .before .before .args .b in within 65 90 (b + 32) b (c .before .if1 .left) (c .if2 .left)))

@@ -1,0 +1,2 @@
+-- What the proofs of `text`'s functions share.
+pub mod Ranges
