@@ -1,6 +1,6 @@
 # What a person types. Each target works on a fresh clone with the kit's rt, gcc and python3 on the PATH.
 SHELL := /bin/bash
-.PHONY: test bench card
+.PHONY: test bench card soak
 .DEFAULT_GOAL := test
 
 # The gate: layout, every proof from nothing with the must-fail edits and the programs, the host tests.
@@ -21,6 +21,15 @@ card:
 	said=$$(mktemp); trap 'rm -f "$$said"' EXIT; \
 	rt check card </dev/null >"$$said" 2>&1 || { cat "$$said" >&2; exit 1; }; \
 	target/bin/card
+
+# More random scripts on the program replay, N of them: make soak N=100. SEED=.. starts from that seed.
+N := 20
+SEED :=
+soak:
+	@set -euo pipefail; \
+	said=$$(mktemp); trap 'rm -f "$$said"' EXIT; \
+	rt check replay </dev/null >"$$said" 2>&1 || { cat "$$said" >&2; exit 1; }; \
+	python3 host/soak.py $(N) $(SEED)
 
 # Ratios to plain C and to Heimdal's library, in one run.
 bench:

@@ -90,7 +90,7 @@ fn answer_input(buf: &mut [u8]) {
     answer_all(&mut buf[..n]);
 }
 
-// Lends the buffer as a slice: here its type says its length, and nothing counts a million elements.
+// Lends the buffer as a slice. Its type says its length here, where `main` would have to count its elements.
 fn lend(buf: &mut [u8; 1048577]) {
     answer_input(buf);
 }
