@@ -11,7 +11,7 @@ import time
 sys.dont_write_bytecode = True
 
 import harness  # noqa: E402
-from sections import cards, challenges, day, paper, passwords, replies, selftest  # noqa: E402
+from sections import cards, challenges, day, paper, passwords, replay, replies, selftest  # noqa: E402
 
 SECTIONS = [
     ("comparison can fail", selftest.comparison_can_fail),
@@ -32,6 +32,11 @@ SECTIONS = [
     ("cards at random", cards.cards_at_random),
     ("program card", cards.program),
     ("the day at a controller", day.stored_output),
+    ("program replay on the recorded scripts", replay.recorded),
+    ("program replay's stored script", replay.stored),
+    ("program replay on its inputs", replay.inputs),
+    ("program replay on lines that are no call", replay.no_calls),
+    ("program replay at random", replay.at_random),
 ]
 
 

@@ -73,11 +73,13 @@ def generator_at_random(driver):
     return harness.same_as_model(driver, lines)
 
 
+NO_CALLS = ["nonsense", "md5", "md5 6", "md5 616", "md5 6G", "md5 AB", "md5 61 61", "md5  61",
+            "md5 61 ", " md5 61", "md5\t61", "md5 61\r", "MD5 61", "md5 --", "md5 0x61", "md5 -",
+            "gen - -", "gen - - -", "gen - - 65535", "gen - - 65536", "gen - - 007", "gen - - +1",
+            "gen - - 1 2", "gen - - 99999999999999999999999", "gen - - 1.0", "gen 6 - 1",
+            "md5 61\0", "md5 \xe9", "md5 61"]
+
+
 def lines_that_are_no_call(driver):
     """`bad` from both, and what stands around such a line is answered still."""
-    lines = ["nonsense", "md5", "md5 6", "md5 616", "md5 6G", "md5 AB", "md5 61 61", "md5  61",
-             "md5 61 ", " md5 61", "md5\t61", "md5 61\r", "MD5 61", "md5 --", "md5 0x61", "md5 -",
-             "gen - -", "gen - - -", "gen - - 65535", "gen - - 65536", "gen - - 007", "gen - - +1",
-             "gen - - 1 2", "gen - - 99999999999999999999999", "gen - - 1.0", "gen 6 - 1",
-             "md5 61\0", "md5 \xe9", "md5 61"]
-    return harness.same_as_model(driver, lines)
+    return harness.same_as_model(driver, NO_CALLS)

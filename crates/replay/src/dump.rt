@@ -1,0 +1,119 @@
+// The table on a line: accounts by rising id, ports, the line, the turn.
+use crate::printing::bytes;
+use crate::printing::number;
+use crate::printing::password;
+use crate::printing::say;
+use login::table::Account;
+use login::table::Table;
+
+// A comma before each entry of a list but the first.
+fn comma(k: usize) {
+    if 0 < k {
+        say(b",");
+    }
+}
+
+// Entry k of a list of pairs.
+fn pair(k: usize, a: u64, b: u64) {
+    comma(k);
+    number(a);
+    say(b":");
+    number(b);
+}
+
+// Entry k of the accounts.
+fn account(k: usize, account: Account) {
+    comma(k);
+    number(account.id as u64);
+    say(b":");
+    let seed = account.seed;
+    let len = account.len;
+    if len <= 16 {
+        bytes(&seed[..len]);
+    }
+    say(b":");
+    number(account.count as u64);
+    say(b":");
+    password(account.password);
+}
+
+// The room of the account with the least id above `last`; 32 where there is none.
+fn next_room(rooms: [Account; 32], last: u16) -> usize {
+    let mut at = 32;
+    let mut least: u16 = 65535;
+    let mut i = 0;
+    while i < 32 {
+        let room = rooms[i];
+        if (last < room.id) & (room.id <= least) {
+            at = i;
+            least = room.id;
+        }
+        i += 1;
+    }
+    at
+}
+
+// How many accounts were shown.
+fn accounts(rooms: [Account; 32]) -> usize {
+    let mut last: u16 = 0;
+    let mut k = 0;
+    while k < 32 {
+        let at = next_room(rooms, last);
+        if 31 < at {
+            return k;
+        }
+        let room = rooms[at];
+        account(k, room);
+        last = room.id;
+        k += 1;
+    }
+    k
+}
+
+fn ports(table: Table) {
+    let ports = table.ports;
+    let mut i = 0;
+    while i < 4 {
+        let port = ports[i];
+        pair(i, port.wrong as u64, port.shut as u64);
+        i += 1;
+    }
+}
+
+// How many of those that wait were shown.
+fn line(table: Table) -> usize {
+    let line = table.line;
+    let places = line.places;
+    let mut i = 0;
+    while i < 4 {
+        if line.len <= i {
+            return i;
+        }
+        let place = places[i];
+        pair(i, place.port as u64, place.id as u64);
+        i += 1;
+    }
+    i
+}
+
+// `-` for a list of none.
+fn dash(shown: usize) {
+    if shown == 0 {
+        say(b"-");
+    }
+}
+
+pub fn dump(table: Table) -> Table {
+    let rooms = table.rooms;
+    say(b"ok A=");
+    dash(accounts(rooms));
+    say(b" P=");
+    ports(table);
+    say(b" L=");
+    dash(line(table));
+    say(b" T=");
+    let waiting = table.line;
+    number(waiting.turn as u64);
+    say(b"\n");
+    table
+}

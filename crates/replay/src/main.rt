@@ -1,0 +1,101 @@
+// Answers replay lines: a call a line on standard input, an answer a line on standard output. All of the input is
+// read before the first call. An input of more than 1 MiB is answered by one line, `bad`, and none of its calls is run.
+use libc::STDIN_FILENO;
+use login::table::Table;
+
+// The table on a line.
+mod dump;
+// What a writer is lent.
+mod lending;
+// What a word says.
+mod numbers;
+// Answers.
+mod printing;
+// The calls on the table.
+mod tables;
+// The calls that need no table.
+mod texts;
+// The words of a line.
+mod words;
+
+// A call that needs no table, one on the table, or none.
+enum Named {
+    Text(texts::Call),
+    Table(tables::Call),
+    Unknown,
+}
+
+fn call_of(name: &[u8]) -> Named {
+    let text = texts::call_of(name);
+    if let texts::Named::Is(call) = text {
+        return Named::Text(call);
+    }
+    let table = tables::call_of(name);
+    if let tables::Named::Is(call) = table {
+        return Named::Table(call);
+    }
+    Named::Unknown
+}
+
+// Answers a line, and hands back the table after it.
+fn answer(line: &mut [u8], table: Table) -> Table {
+    let end = words::end_of(line, 0);
+    match call_of(&line[..end]) {
+        Named::Text(call) => {
+            let given = words::read(line, end, texts::kinds_of(call));
+            texts::act(call, line, given);
+            table
+        }
+        Named::Table(call) => {
+            let given = words::read(line, end, tables::kinds_of(call));
+            tables::act(call, line, given, table)
+        }
+        Named::Unknown => {
+            printing::bad();
+            table
+        }
+    }
+}
+
+// Whether a line is passed over: an empty one, and a comment.
+fn is_passed(line: &[u8]) -> bool {
+    if line.len() == 0 {
+        return true;
+    }
+    line[0] == b'#'
+}
+
+// Answers each line in turn. The last one may lack its newline.
+fn answer_all(input: &mut [u8]) {
+    let mut table = login::table::fresh();
+    let mut at = 0;
+    while at < input.len() {
+        let start = at;
+        let end = bytes::scan::find(input, start, input.len(), b'\n');
+        at = end + 1;
+        if is_passed(&input[start..end]) {
+            continue;
+        }
+        table = answer(&mut input[start..end], table);
+    }
+}
+
+// Reads all of standard input into the buffer, which has one byte more than an input may have, and answers it.
+fn answer_input(buf: &mut [u8]) {
+    let n = io::read_full(STDIN_FILENO, buf);
+    if 1048576 < n {
+        printing::bad();
+        return;
+    }
+    answer_all(&mut buf[..n]);
+}
+
+// Lends the buffer as a slice. Its type says its length here, where `main` would have to count its elements.
+fn lend(buf: &mut [u8; 1048577]) {
+    answer_input(buf);
+}
+
+fn main() {
+    let mut buf = [0u8; 1048577];
+    lend(&mut buf);
+}

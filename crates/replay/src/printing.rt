@@ -1,0 +1,120 @@
+// Answers on standard output.
+ghost use Prim.Native.Nat.{_≤_};
+ghost use lib.ListN.{length};
+use crate::lending::is_untouched;
+use libc::STDOUT_FILENO;
+use refusal::Reading;
+use refusal::Refusal;
+use refusal::Written;
+use put::spell;
+
+pub fn say(text: &[u8]) {
+    io::write_all(STDOUT_FILENO, text);
+}
+
+pub fn number(n: u64) {
+    io::print_decimal(STDOUT_FILENO, n);
+}
+
+// A password as sixteen hex digits.
+pub fn password(p: u64) {
+    io::print_hex(STDOUT_FILENO, p, 16);
+}
+
+pub fn bad() {
+    say(b"bad\n");
+}
+
+pub fn ok() {
+    say(b"ok\n");
+}
+
+// Up to 256 bytes in hex, and how many they were.
+fn some_bytes(text: &[u8]) -> usize
+    ensures { λ r. ⌜ (r ≤ length (now (text .entry))) × (1 ≤ length (now (text .entry)) → 1 ≤ r) ⌝ }
+{
+    let mut out = [0u8; 512];
+    let mut n = 0;
+    while n < 256 {
+        if text.len() <= n {
+            break;
+        }
+        let at = 2 * n;
+        spell(&mut out[at..], text[n] as u64, 16, 2);
+        n += 1;
+    }
+    let end = 2 * n;
+    say(&out[..end]);
+    n
+}
+
+// Bytes in hex; `-` where there are none.
+pub fn bytes(text: &[u8]) {
+    if text.len() == 0 {
+        say(b"-");
+        return;
+    }
+    let mut at = 0;
+    while at < text.len() {
+        at += some_bytes(&text[at..]);
+    }
+}
+
+// `no` and the paper's number, with 31's place.
+pub fn no(why: Refusal) {
+    let listing = refusal::listing_of(why);
+    say(b"no ");
+    number(listing.0 as u64);
+    if listing.1 != 0 {
+        say(b" ");
+        number(listing.1 as u64);
+    }
+}
+
+// A refusal as the whole answer.
+pub fn refused(why: Refusal) {
+    no(why);
+    say(b"\n");
+}
+
+pub fn reading(result: Reading) {
+    match result {
+        Reading::Password(p) => {
+            say(b"ok ");
+            password(p);
+            say(b"\n");
+        }
+        Reading::Refused(why) => refused(why),
+    }
+}
+
+// Ends a writer's answer: whether what lies past its text was touched.
+fn clean(rest: &[u8]) {
+    if is_untouched(rest) {
+        say(b" clean\n");
+    } else {
+        say(b" dirty\n");
+    }
+}
+
+// What a writer answered, and what it left in the buffer.
+pub fn written(result: Written, buf: &[u8]) {
+    match result {
+        Written::Wrote(n) => {
+            say(b"ok ");
+            number(n as u64);
+            say(b" ");
+            if n <= buf.len() {
+                bytes(&buf[..n]);
+                clean(&buf[n..]);
+            } else {
+                // no writer says that it wrote more than it was lent
+                say(b"- dirty\n");
+            }
+        }
+        Written::Refused(why) => {
+            no(why);
+            clean(buf);
+        }
+    }
+}

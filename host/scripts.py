@@ -1,0 +1,236 @@
+"""Random replay scripts: a day at a controller with everything that can go wrong.
+
+`script(seed, calls)` is the same for the same two numbers. Each call is run on
+the model as it is made, so that the next one can suit the table: the right
+reply of the port whose turn it is, a full table, four ports in line.
+"""
+import random
+
+import harness
+import model
+from harness import call
+from sections import challenges, passwords, replies
+
+PORTS = (0, 1, 2, 3)
+PHRASES = [b"A_Valid_Pass_Phrase", b"This is a test.", b"\0" * 10, bytes(range(128, 191))]
+
+# the numbers of document 01, each of which some call can give
+NUMBERS = [10, 11, 12, 13, *range(20, 26), *range(30, 34), 40, *range(50, 64), 70]
+
+
+class Day:
+    """A table, what is known of its passwords, and how often each call is made."""
+
+    def __init__(self, seed):
+        self.rng = random.Random(seed)
+        self.table = model.Table()
+        self.before = {}  # a password -> the one that it is the hash of
+        self.long_left = 2  # very long texts and long waits that the script may still have
+        self.calls, self.weights = zip(*self.mood())
+        self.filling = self.rng.choice([0, 0, 33])  # a day in three begins with a full table
+
+    def mood(self):
+        """The weight of each kind of call: another one for each day."""
+        rng = self.rng
+        self.most_ids = rng.choice([3, 8, 40, 40, 65535])
+        self.right = rng.choice([0.1, 0.5, 0.8])
+        weights = {
+            self.enrol: rng.choice([4, 8, 30]), self.remove: rng.choice([1, 1, 6]),
+            self.join: rng.choice([10, 20, 30]), self.leave: rng.choice([1, 2, 4]),
+            self.challenge: 4, self.reply: rng.choice([6, 15, 30]), self.renew: rng.choice([3, 8]),
+            self.tick: rng.choice([2, 5, 10]), self.dump: 6, self.new: 0.1,
+            self.md5: 2, self.gen: 3, self.words: 2, self.hex: 2, self.read: 4, self.chal: 4,
+            self.wchal: 3, self.card: 3, self.prog: 3, self.no_call: 2}
+        return weights.items()
+
+    def line(self):
+        """One more line, made of the table as it is. Where nobody waits, mostly somebody comes first."""
+        if self.filling > 0:
+            self.filling -= 1
+            return self.enrol()
+        made = self.rng.choices(self.calls, self.weights)[0]
+        if not self.table.line and made in (self.reply, self.renew, self.challenge, self.leave):
+            made = self.rng.choice([self.join] * 5 + [made])
+        return made()
+
+    # words
+
+    def any_id(self):
+        return self.rng.choice([0, 1, 65535, *[self.rng.randint(1, self.most_ids)] * 12])
+
+    def id(self):
+        """Mostly one that is there."""
+        there = list(self.table.accounts)
+        return self.rng.choice(there) if there and self.rng.random() < 0.85 else self.any_id()
+
+    def any_port(self):
+        return self.rng.choice([*PORTS * 6, 4, 255, 256, 259, 65535])
+
+    def port(self):
+        """Mostly the front one; those behind, others, over 3 and over 255 now and then."""
+        front = self.table.line and self.rng.random() < 0.75
+        return self.table.line[0][0] if front else self.any_port()
+
+    def count(self):
+        return self.rng.choice([2, 3, 5, *[self.rng.randrange(2, 60)] * 12, 0, 1, 9999, 10000, 65535])
+
+    def seed(self):
+        return self.rng.choice([b"dog2", b"Lift1", b"ke1234", passwords.any_seed(self.rng)])
+
+    def room(self, length):
+        """Around what a text of that length needs."""
+        return self.rng.choice([length, length - 1, length + 1, 0, 64, self.rng.randrange(80), 8192])
+
+    def password(self):
+        return "%016x" % self.rng.choice([0, 2**64 - 1, *[self.rng.getrandbits(64)] * 6])
+
+    def chained(self, seed, count):
+        """The password of some pass-phrase at that count; those below it are remembered."""
+        if not 0 < count < 100:
+            return self.password()
+        passed = model.chain(self.rng.choice(PHRASES), seed, count)
+        self.before.update(zip(passed[1:], passed))
+        return "%016x" % passed[-1]
+
+    def reply_text(self):
+        """The right reply of the port in front, as hex or words; another password; or no password."""
+        account = self.table.accounts[self.table.line[0][1]] if self.table.line else None
+        password = self.before.get(account.password) if account else None
+        if password is None or self.rng.random() > self.right:
+            if self.rng.random() < 0.5:
+                return self.any_reply()
+            password = self.rng.getrandbits(64)
+        text = self.rng.choice([model.hex_of, model.words_of])(password)
+        return replies.some_case(self.rng, replies.spaced(self.rng, text.split()))
+
+    def any_reply(self):
+        if self.long():
+            return b"A" * self.rng.choice([129, 5000, 60000])
+        return replies.some_case(self.rng, self.rng.choice(replies.KINDS)(self.rng))
+
+    def long(self):
+        """Now and then, and few in a script: what is very long, or takes long."""
+        if self.long_left == 0 or self.rng.random() > 0.01:
+            return False
+        self.long_left -= 1
+        return True
+
+    # calls on the table
+
+    def new(self):
+        return "new"
+
+    def enrol(self):
+        count, seed = self.count(), self.seed()
+        return call("enrol", self.any_id(), count, seed, self.chained(seed, count))
+
+    def remove(self):
+        return call("remove", self.id())
+
+    def join(self):
+        """Mostly a port that doesn't wait yet."""
+        idle = [port for port in PORTS if not self.table.is_waiting(port)]
+        port = self.rng.choice(idle) if idle and self.rng.random() < 0.8 else self.any_port()
+        return call("join", port, self.id())
+
+    def leave(self):
+        return call("leave", self.any_port())
+
+    def challenge(self):
+        return call("challenge", self.port(), self.room(17))
+
+    def reply(self):
+        return call("reply", self.port(), self.reply_text())
+
+    def renew(self):
+        count, seed = self.count(), self.seed()
+        return call("renew", self.port(), count, seed, self.chained(seed, count), self.reply_text())
+
+    def tick(self):
+        if self.long():
+            return call("tick", self.rng.choice([5000, 100000]))
+        return call("tick", self.rng.choice([0, 1, 1, 1, 7, 59, 60, 61, 180, 899, 900, 901]))
+
+    def dump(self):
+        return "dump"
+
+    # calls that need no table
+
+    def md5(self):
+        if self.long():
+            return call("md5", b"x" * self.rng.choice([4096, 4097, 100000]))
+        return call("md5", self.rng.randbytes(self.rng.choice([0, 55, 56, 64, self.rng.randrange(200)])))
+
+    def gen(self):
+        count = passwords.any_count(self.rng) if self.long() else self.rng.choice([0, 1, 30, 10000, 65535])
+        return call("gen", passwords.any_phrase(self.rng), self.seed(), count)
+
+    def words(self):
+        return call("words", self.password(), self.room(self.rng.randrange(11, 30)))
+
+    def hex(self):
+        return call("hex", self.password(), self.room(16))
+
+    def read(self):
+        return call("read", self.any_reply())
+
+    def chal(self):
+        return call("chal", challenges.any_challenge(self.rng))
+
+    def wchal(self):
+        return call("wchal", self.seed(), self.count(), self.room(17))
+
+    def some_challenge(self):
+        if self.rng.random() < 0.3:
+            return challenges.any_challenge(self.rng)
+        return b"otp-md5 %d dog2\n" % self.rng.randrange(60)
+
+    def some_phrase(self):
+        return passwords.any_phrase(self.rng) if self.rng.random() < 0.2 else PHRASES[0]
+
+    def card(self):
+        lines = self.rng.choice([0, 1, 2, 9, 59, 99, 100, 65535])
+        room = self.rng.choice([0, 47, 48, 100, 5148, 8192])
+        return call("card", self.some_phrase(), self.some_challenge(), lines, room)
+
+    def prog(self):
+        lines = self.rng.choice([b"1", b"2", b"10", b"0", b"01", b"100", b""])
+        rest = self.rng.randbytes(self.rng.choice([0, 0, 1, 300]))
+        return call("prog", self.some_phrase() + b"\n" + self.some_challenge() + lines + b"\n" + rest)
+
+    # lines that are no call
+
+    def no_call(self):
+        """An empty line, a comment, or a good line with one thing wrong."""
+        line = self.rng.choice([self.join, self.gen, self.hex, self.tick, self.enrol, self.read])()
+        words = line.split(" ")
+        at = self.rng.randrange(len(words))
+        changed = self.rng.choice(["", words[at] + " ", words[at] + "\r", words[at].upper(), "-", "x",
+                                   "65536", "8193", "100001", "-1", "+1", "1.0", "\0", "\xe9", "0" * 17,
+                                   "9" * 30, words[at][:-1], words[at] + "0"])
+        return self.rng.choice(["", "# " + line, " " + line, line + " ", line + " 0", line + "\r",
+                                " ".join(words[:-1]), line.replace(" ", "\t"), line.upper(),
+                                *[" ".join(words[:at] + [changed] + words[at + 1:])] * 8])
+
+
+def is_call(line):
+    """A line that is answered."""
+    return line != "" and not line.startswith("#")
+
+
+def script(seed, calls=1000):
+    """That many answered lines, with some that aren't between them: the lines, and the model's answers."""
+    day = Day(seed)
+    lines, answers = [], []
+    while len(answers) < calls:
+        line = day.line()
+        lines.append(line)
+        if is_call(line):
+            answers.append(model.answer(day.table, line))
+    return lines, answers
+
+
+def differences(program, lines, answers):
+    """Where the program answers the script otherwise than the model did, in a few lines each."""
+    numbered = [f"line {at}: {line}" for at, line in enumerate(lines, 1) if is_call(line)]
+    return harness.differences(numbered, harness.asked(program, lines), answers)
