@@ -6,4 +6,3 @@ pub mod Order
 pub mod Laws
 pub mod Determined
 pub mod Examples
-pub mod Inside
