@@ -5,4 +5,3 @@ pub mod Runs
 pub mod Order
 pub mod Laws
 pub mod Examples
-pub mod Inside

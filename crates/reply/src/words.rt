@@ -1,7 +1,7 @@
 // A reply read as words, and a password written as words.
 use dictionary::Found;
-use dictionary::place_of;
-use dictionary::word_at;
+use lookup::place_of;
+use lookup::word_at;
 use refusal::Reading;
 use refusal::Refusal;
 use sixwords::Number;

@@ -1,8 +1,9 @@
--- The promises of `dictionary`, `sixwords` and `reply` determine their results.
+-- The promises of `rows`, `lookup`, `sixwords` and `reply` determine their results.
 use mathlib.Core.Path.{sym, _∙_}
 use denote.Ref.{now}
-use Rattle.dictionary.proofs.word_at.Reads as word-at
-use Rattle.dictionary.proofs.place_of.Reads as place-of
+use Rattle.rows.proofs.row.Reads as row
+use Rattle.lookup.proofs.word_at.Reads as word-at
+use Rattle.lookup.proofs.place_of.Reads as place-of
 use Rattle.sixwords.proofs.places_of.Reads as places-of
 use Rattle.sixwords.proofs.number_of.Reads as number-of
 use Rattle.reply.proofs.read.Reads as read
@@ -10,6 +11,9 @@ use Rattle.reply.proofs.write_hex.Reads as write-hex
 use Rattle.reply.proofs.words_length.Reads as words-length
 use Rattle.reply.proofs.write_words.Reads as write-words
 use Rattle.demands.specs.Determined.{Answers, AnswersAndLent, left}
+
+pub row-determined : Answers row.Learnt
+row-determined k a y z e f p q = p ∙ sym q
 
 pub word-at-determined : Answers word-at.Learnt
 word-at-determined k a y z e f p q = p ∙ sym q

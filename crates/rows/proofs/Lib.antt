@@ -1,4 +1,2 @@
 -- Lemmas of this crate's proofs.
 mod Passed
-mod Cells
-mod Spans

@@ -4,10 +4,10 @@ use Prim.Native.Nat.{ℕ, _*_}
 use native.Mathlib.Nat.{add-zero}
 use native.Mathlib.Omega.{arith}
 use borrow.Author.Needs.{needs}
 use Rattle.dictionary.specs.Dictionary.{packedAt}
-use Rattle.dictionary.proofs.Cells.{row-at}
-use Rattle.dictionary.proofs.head.Statement.{statement}
-use Rattle.dictionary.proofs.head.Tie as tie
+use Rattle.rows.specs.Laws.{row-at}
+use Rattle.lookup.proofs.head.Statement.{statement}
+use Rattle.lookup.proofs.head.Tie as tie
 
 returns : tie.Need-returns
 returns c =

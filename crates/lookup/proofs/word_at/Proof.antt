@@ -3,10 +3,10 @@ use Prim.Native.Nat.{_+_, _*_, _/_, _%_, _<_}
 use mathlib.Core.Path.{_≡_, _∙_, ap}
 use native.Mathlib.Omega.{arith}
 use borrow.Author.Needs.{needs}
 use Rattle.dictionary.specs.Dictionary.{packedAt}
-use Rattle.dictionary.proofs.Cells.{row-at}
-use Rattle.dictionary.proofs.word_at.Statement.{statement}
-use Rattle.dictionary.proofs.word_at.Tie as tie
+use Rattle.rows.specs.Laws.{row-at}
+use Rattle.lookup.proofs.word_at.Statement.{statement}
+use Rattle.lookup.proofs.word_at.Tie as tie
 
 returns : tie.Need-returns
 returns c =

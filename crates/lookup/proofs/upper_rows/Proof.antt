@@ -2,9 +2,9 @@
 use Prim.Native.Nat.{ℕ, _+_, _*_}
 use native.Mathlib.Omega.{arith}
 use borrow.Author.Needs.{needs}
-use Rattle.dictionary.proofs.Spans.{upper, lower}
-use Rattle.dictionary.proofs.upper_rows.Statement.{statement}
-use Rattle.dictionary.proofs.upper_rows.Tie as tie
+use Rattle.lookup.proofs.Spans.{upper, lower}
+use Rattle.lookup.proofs.upper_rows.Statement.{statement}
+use Rattle.lookup.proofs.upper_rows.Tie as tie
 
 returns : tie.Need-returns
 returns c =

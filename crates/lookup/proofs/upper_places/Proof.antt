@@ -5,14 +5,14 @@ use mathlib.Core.List.{List}
 use native.Mathlib.Omega.{arith}
 use borrow.Author.Needs.{needs}
 use lib.ListN.{getD}
 use Rattle.dictionary.specs.Dictionary.{packedAt}
-use Rattle.dictionary.proofs.Cells.{row-at}
-use Rattle.dictionary.proofs.Spans.{upper, lower}
-use Rattle.dictionary.proofs.upper_places.Statement.{statement}
-use Rattle.dictionary.proofs.upper_places.Tie as tie
+use Rattle.rows.specs.Laws.{row-at}
+use Rattle.lookup.proofs.Spans.{upper, lower}
+use Rattle.lookup.proofs.upper_places.Statement.{statement}
+use Rattle.lookup.proofs.upper_places.Tie as tie
 
 -- what the row has in the middle
-middle : (c : tie.Start) → getD (c .args .row .now) (c .args .low + c .args .half) 0 ≡ packedAt (c .args .i * 8 + (c .args .low + c .args .half))
+middle : (c : tie.Start) → getD (c .args .words .now) (c .args .low + c .args .half) 0 ≡ packedAt (c .args .i * 8 + (c .args .low + c .args .half))
 middle c =
     ap (λ (l : List ℕ). getD l (c .args .low + c .args .half) 0) (c .pre .0)
     ∙ row-at (c .args .i) (c .args .low + c .args .half) (omega arith)

@@ -2,8 +2,8 @@
 use native.Mathlib.Omega.{arith}
 use native.Mathlib.Nat.{add-zero}
 use borrow.Author.Needs.{needs}
-use Rattle.dictionary.proofs.last_in_row.Statement.{statement}
-use Rattle.dictionary.proofs.last_in_row.Tie as tie
+use Rattle.lookup.proofs.last_in_row.Statement.{statement}
+use Rattle.lookup.proofs.last_in_row.Tie as tie
 
 pub last-in-row-spec : {M : Type 1} → statement M
 last-in-row-spec =

@@ -2,8 +2,8 @@
 use Prim.Native.Nat.{ℕ, _+_, _≤_, _<_}
 use mathlib.Core.Path.{_≡_}
 use native.Mathlib.Omega.{arith}
 use Rattle.dictionary.specs.Dictionary.{packedAt}
-use Rattle.dictionary.specs.Inside.{Span}
+use Rattle.lookup.specs.Inside.{Span}
 
 -- the part from `middle` on, where the word there is not over x
 pub upper : (x low width middle rest : ℕ) → Span x low width → middle + rest ≡ low + width → packedAt middle ≤ x → Span x middle rest

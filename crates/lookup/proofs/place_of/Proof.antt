@@ -5,10 +5,11 @@ use mathlib.Core.List.{List}
 use native.Mathlib.Omega.{arith}
 use borrow.Author.Needs.{needs}
 use lib.ListN.{getD}
 use Rattle.dictionary.specs.Dictionary.{packedAt}
-use Rattle.dictionary.proofs.Cells.{row-at, ends-at, ends-beside}
-use Rattle.dictionary.proofs.place_of.Statement.{statement}
-use Rattle.dictionary.proofs.place_of.Tie as tie
+use Rattle.rows.specs.Laws.{row-at}
+use Rattle.lookup.proofs.Ends.{ends-at, ends-beside}
+use Rattle.lookup.proofs.place_of.Statement.{statement}
+use Rattle.lookup.proofs.place_of.Tie as tie
 
 -- what the row has at the place where the search ends
 ended : (c : tie.After-last-in-row) →

@@ -1,23 +1,22 @@
--- The rows are the dictionary's words, and where the search ends.
+-- The rows hold the dictionary's words.
 use Prim.Native.Nat.{ℕ, zero, suc, _+_, _*_, _≤_, _<_}
 use Prim.Native.String.{String}
 use native.Mathlib.Omega.{arith}
 use native.Mathlib.Decide.{decLt}
 use native.Mathlib.Nat.{le-of-suc-le-suc, not-suc-le-zero}
-use mathlib.Core.Path.{_≡_, refl, sym, _∙_, ap}
+use mathlib.Core.Path.{_≡_, refl, sym, _∙_}
 use mathlib.Core.Bool.{Bool, true, _&&_}
 use mathlib.Core.List.{List, [], _∷_, map, flatten, map-append}
 use lib.Dec.{T, eqb, eqb→eq}
-use lib.ListN.{length, getD, length-map, getD-replicate, List·getD-append, List·getD-eq-default}
+use lib.ListN.{length, getD, length-map, replicate, getD-replicate, List·getD-append, List·getD-eq-default}
 use lib.Seq.{getD-append-add}
 use borrow.Author.Tests.{lt-ltb, le-ltb}
-use Rattle.dictionary.specs.declared.Found.{Found}
 use Rattle.text.specs.Quoted.{codes}
 use Rattle.dictionary.specs.Words.{wordsIn, lines, words}
-use Rattle.dictionary.specs.Dictionary.{packed, dictionary, packedAt, foundOf}
+use Rattle.dictionary.specs.Dictionary.{packed, dictionary, packedAt}
 use Rattle.dictionary.specs.Order.{both}
-use Rattle.dictionary.specs.Laws.{dictionary-count, packed-order, at-place, no-place}
-use Rattle.dictionary.specs.Inside.{rowOf, Span}
+use Rattle.dictionary.specs.Laws.{dictionary-count}
+use Rattle.rows.specs.Rows.{rowOf}
 
 -- a line's words
 abbrev wordsOf : String → List (List ℕ)
@@ -59,6 +58,12 @@ cell (l ∷ ls) t (suc i) j h k =
 past-end : (n : ℕ) → 2048 ≤ n → packedAt n ≡ 0
 past-end n h = List·getD-eq-default dictionary 0 (rw dictionary-count h)
 
+-- from 256 on there is no row
+pub no-row : (i : ℕ) → 256 ≤ i → rowOf i ≡ replicate 8 0
+unfolding rowOf
+no-row i h = rw (le-ltb i 256 h)
+
+-- word j of row i
 pub row-at : (i j : ℕ) → j < 8 → getD (rowOf i) j 0 ≡ packedAt (i * 8 + j)
 unfolding rowOf dictionary words
 row-at i j h = go (decLt i 256)
@@ -66,30 +71,4 @@ row-at i j h = go (decLt i 256)
     go : Dec (i < 256) → getD (rowOf i) j 0 ≡ packedAt (i * 8 + j)
     go (yes l) = rw (lt-ltb i 256 l) (sym (cell lines lines-full i j (rw lines-count l) h))
     go (no l) =
-        let out : 256 ≤ i = omega arith in
-        rw (le-ltb i 256 out) (getD-replicate 8 j 0 0 h ∙ sym (past-end (i * 8 + j) (omega arith)))
-
--- the search ends at the word, or beside it
-pub ends-at : (x k : ℕ) → Span x k 1 → packedAt k ≡ x → Found.At k ≡ foundOf x
-ends-at x k s e =
-    let place : k < 2048 = omega arith in
-    sym (at-place k place) ∙ ap foundOf e
-
-pub ends-beside : (x k : ℕ) → Span x k 1 → (packedAt k ≡ x → ⊥) → Found.Nothing ≡ foundOf x
-ends-beside x k s f = sym (no-place x (λ i h e. go i h e (decLt i k) (decLt k i) (decLt (k + 1) i)))
-  where
-    go : (i : ℕ) → i < 2048 → packedAt i ≡ x → Dec (i < k) → Dec (k < i) → Dec (k + 1 < i) → ⊥
-    go i h e (yes l) d g =
-        let w : k < 2048 = omega arith in
-        let o = packed-order i k l w in
-        let v = s .above (omega arith) in
-        omega arith
-    go i h e (no l) (no m) g = f (ap packedAt (omega arith) ∙ e)
-    go i h e (no l) (yes m) (yes n) =
-        let v = s .under (omega arith) in
-        let o = packed-order (k + 1) i n h in
-        omega arith
-    go i h e (no l) (yes m) (no n) =
-        let v = s .under (omega arith) in
-        let same : packedAt (k + 1) ≡ packedAt i = ap packedAt (omega arith) in
-        omega arith
+        rw (no-row i (omega arith)) (getD-replicate 8 j 0 0 h ∙ sym (past-end (i * 8 + j) (omega arith)))

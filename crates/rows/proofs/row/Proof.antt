@@ -1,18 +1,13 @@
 -- `row` meets its promise: in each arm the row's number is known, and the line of the dictionary computes to the arm's words.
-use borrow.Author.Tests.{le-ltb}
 use mathlib.Core.Path.{sym, ap}
 use Rattle.text.specs.Quoted.{codes}
 use Rattle.dictionary.specs.Words.{wordsIn, lines}
 use Rattle.dictionary.specs.Dictionary.{packed, numberFrom}
-use Rattle.dictionary.specs.Inside.{rowOf}
-use Rattle.dictionary.proofs.Passed.{beyond}
-use Rattle.dictionary.proofs.rows.row.Statement.{statement}
-use Rattle.dictionary.proofs.rows.row.Tie as tie
-
--- from 256 on there is no line
-returns-257 : tie.Need-returns-257
-unfolding rowOf
-returns-257 c = simp (le-ltb (c .before .args .i) 256 (beyond 256 (c .before .args .i) (c .match .rest)))
+use Rattle.rows.specs.Rows.{rowOf}
+use Rattle.rows.specs.Laws.{no-row}
+use Rattle.rows.proofs.Passed.{beyond}
+use Rattle.rows.proofs.row.Statement.{statement}
+use Rattle.rows.proofs.row.Tie as tie
 
 pub row-spec : {M : Type 1} → statement M
 unfolding rowOf codes wordsIn lines packed numberFrom
@@ -275,4 +270,4 @@ row-spec =
     (λ c. ap rowOf (sym (c .match .keys254)))
     (λ c. ap rowOf (sym (c .match .keys255)))
     (λ c. ap rowOf (sym (c .match .keys256)))
-    returns-257)
+    (λ c. sym (no-row (c .before .args .i) (beyond 256 (c .before .args .i) (c .match .rest)))))

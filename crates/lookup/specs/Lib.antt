@@ -1,0 +1,2 @@
+-- What the private functions of `lookup` promise.
+pub mod Inside

@@ -1,0 +1,3 @@
+-- The rows that the promise of `rows` cites, and their law.
+pub mod Rows
+pub mod Laws
