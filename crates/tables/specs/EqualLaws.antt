@@ -21,15 +21,15 @@ use Rattle.password.specs.Password.{Algorithm, hash, bytesOf}
 use Rattle.challenge.specs.Challenges.{must, challengeWritten}
 use Rattle.reply.specs.Reading.{readingOf}
 use Rattle.line.specs.Line.{Waiting, standsIn, left}
 use Rattle.login.specs.declared.port.Port.{Port}
 use Rattle.login.specs.declared.table.Replied.{Replied}
 use Rattle.login.specs.Table.{Room, State, free, placeOf, holds, isThere, accountOf, portOf, turnId, hasTurn}
 use Rattle.login.specs.Checks.{inOrder, idGiven, countWithin, portKnown, notInLine, portOpen, inLine, inFront}
 use Rattle.login.specs.Steps as steps
 use Rattle.login.specs.Steps.{After, enrolChecked, joinChecked, leaveChecked, turnChecked, renewChecked}
 use Rattle.login.specs.Passed.{enrol-passed, enrol-refused, enrol-done, remove-refused, remove-done, join-refused, join-done, leave-refused, leave-done, turn-passed, reply-refused, reply-done, renew-passed, renew-refused, renew-done, challenge-refused, challenge-done}
-use Rattle.login.specs.Equal.{accountBy, SameAccounts, Equal, Alike, times, accountsIn, Housed}
-use Rattle.login.specs.RoomLaws.{holds-times, placed-id, account-by, found-none, set-other, set-here, times-set, accounts-free, same-count}
+use Rattle.tables.specs.Equal.{accountBy, SameAccounts, Equal, Alike, times, accountsIn, Housed}
+use Rattle.tables.specs.RoomLaws.{holds-times, placed-id, account-by, found-none, set-other, set-here, times-set, accounts-free, same-count}
 
 isSome : Option Room → Bool
 isSome none = false

@@ -17,17 +17,17 @@ use Rattle.password.specs.Password.{Algorithm, hash, bytesOf}
 use Rattle.reply.specs.Reading.{readingOf}
 use Rattle.challenge.specs.Challenges.{must}
 use Rattle.line.specs.Line.{Waiting}
 use Rattle.login.specs.declared.port.Port.{Port}
 use Rattle.login.specs.declared.table.Replied.{Replied}
 use Rattle.login.specs.Table.{Room, State, free, fresh, placeOf, holds, isThere, accountOf, turnId}
 use Rattle.login.specs.Checks.{roomLeft}
 use Rattle.login.specs.Steps as steps
 use Rattle.login.specs.Steps.{enrolChecked, joinChecked, leaveChecked, turnChecked, renewChecked}
-use Rattle.login.specs.Calls.{Call, Answer, after, answer, run, checkedAnswer, repliedAnswer, writtenAnswer}
+use Rattle.tables.specs.Calls.{Call, Answer, after, answer, run, checkedAnswer, repliedAnswer, writtenAnswer}
 use Rattle.login.specs.Passed.{test-passed, enrol-passed, enrol-refused, enrol-done, remove-refused, remove-done, join-refused, join-done, leave-refused, leave-done, turn-passed, reply-refused, reply-done, renew-passed, renew-refused, renew-done}
-use Rattle.login.specs.Equal.{Equal, Alike, times, accountsIn, Housed}
-use Rattle.login.specs.RoomLaws.{holds-times, placed-id, times-set, accounts-free}
-use Rattle.login.specs.EqualLaws.{table, join-alike, leave-alike, challenge-same, tick-equal, reply-alike, renew-alike, remove-alike, enrol-alike}
+use Rattle.tables.specs.Equal.{Equal, Alike, times, accountsIn, Housed}
+use Rattle.tables.specs.RoomLaws.{holds-times, placed-id, times-set, accounts-free}
+use Rattle.tables.specs.EqualLaws.{table, join-alike, leave-alike, challenge-same, tick-equal, reply-alike, renew-alike, remove-alike, enrol-alike}
 
 -- ---- the accounts stay apart
 
