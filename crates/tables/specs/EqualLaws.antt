@@ -21,7 +21,8 @@ use Rattle.password.specs.Password.{Algorithm, hash, bytesOf}
 use Rattle.challenge.specs.Challenges.{must, challengeWritten}
 use Rattle.reply.specs.Reading.{readingOf}
 use Rattle.line.specs.Line.{Waiting, standsIn, left}
-use Rattle.login.specs.declared.port.Port.{Port}
+use Rattle.port.specs.declared.Port.{Port}
+use Rattle.port.specs.Port.{wrongAnswer}
 use Rattle.login.specs.declared.table.Replied.{Replied}
 use Rattle.login.specs.Table.{Room, State, free, placeOf, holds, isThere, accountOf, portOf, turnId, hasTurn}
 use Rattle.login.specs.Checks.{inOrder, idGiven, countWithin, portKnown, notInLine, portOpen, inLine, inFront}
@@ -248,7 +249,7 @@ module _ (P : List Port) (W : Waiting) (l m : List Room) (h : SameAccounts l m) 
 
       by : (b : Bool) → Alike (cond b (steps.accepted port next s) (steps.rejected port s)) (cond b (steps.accepted port next t) (steps.rejected port t))
       by true = alike (Replied.Accepted (next .count)) _ _ (set l (placeOf id l) next) (set m (placeOf id m) next) put
-      by false = alike (Replied.Refused (steps.wrongAnswer (portOf port s))) _ _ l m h
+      by false = alike (Replied.Refused (wrongAnswer (portOf port s))) _ _ l m h
 
   -- What is done with a text, where the account that comes of a password is made from the present one.
   read-alike : (port : ℕ) (text : List ℕ) (next : Room → ℕ → Room) → isThere (turnId (table P W l)) (table P W l) ≡ true

@@ -17,7 +17,7 @@ use Rattle.password.specs.Password.{Algorithm, hash, bytesOf}
 use Rattle.reply.specs.Reading.{readingOf}
 use Rattle.challenge.specs.Challenges.{must}
 use Rattle.line.specs.Line.{Waiting}
-use Rattle.login.specs.declared.port.Port.{Port}
+use Rattle.port.specs.declared.Port.{Port}
 use Rattle.login.specs.declared.table.Replied.{Replied}
 use Rattle.login.specs.Table.{Room, State, free, fresh, placeOf, holds, isThere, accountOf, turnId}
 use Rattle.login.specs.Checks.{roomLeft}

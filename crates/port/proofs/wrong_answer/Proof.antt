@@ -3,8 +3,8 @@ use Prim.Native.Nat.{_+_}
 use borrow.Author.Needs.{needs}
 use borrow.Author.Tests.{le-leb, lt-leb}
 use native.Mathlib.Omega.{arith}
-use Rattle.login.proofs.port.wrong_answer.Statement.{statement}
-use Rattle.login.proofs.port.wrong_answer.Tie as tie
+use Rattle.port.proofs.wrong_answer.Statement.{statement}
+use Rattle.port.proofs.wrong_answer.Tie as tie
 
 pub wrong-answer-spec : {M : Type 1} → statement M
 wrong-answer-spec =

@@ -1,10 +1,10 @@
 -- `after_tick` meets its promise: what is 0 stays.
 use Prim.Native.Nat.{ℕ, _-_}
-use mathlib.Core.Path.{_≡_}
+use mathlib.Core.Path.{_≡_, refl}
 use borrow.Author.Needs.{needs}
 use native.Mathlib.Omega.{arith}
-use Rattle.login.proofs.port.after_tick.Statement.{statement}
-use Rattle.login.proofs.port.after_tick.Tie as tie
+use Rattle.port.proofs.after_tick.Statement.{statement}
+use Rattle.port.proofs.after_tick.Tie as tie
 
 returns-2 : tie.Need-returns-2
 returns-2 c =
@@ -13,4 +13,4 @@ returns-2 c =
     λ i. record { wrong = p .wrong; shut = none i }
 
 pub after-tick-spec : {M : Type 1} → statement M
-after-tick-spec = tie.close (tie.spec (λ c. search needs) (λ c. search needs) returns-2)
+after-tick-spec = tie.close (tie.spec (λ c. search needs) (λ c. refl) returns-2)

@@ -3,8 +3,8 @@ use Prim.Native.Nat.{_+_}
 use borrow.Author.Needs.{needs}
 use borrow.Author.Tests.{le-leb, lt-leb}
 use native.Mathlib.Omega.{arith}
-use Rattle.login.proofs.port.after_wrong.Statement.{statement}
-use Rattle.login.proofs.port.after_wrong.Tie as tie
+use Rattle.port.proofs.after_wrong.Statement.{statement}
+use Rattle.port.proofs.after_wrong.Tie as tie
 
 pub after-wrong-spec : {M : Type 1} → statement M
 after-wrong-spec =

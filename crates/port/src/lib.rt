@@ -1,6 +1,6 @@
-// A port's own record.
+// A port's own record: its run of wrong replies and its shut ticks.
 ghost use mathlib.Core.Path.{_≡_};
-ghost use Rattle.login.specs.Steps.{wrongly, wrongAnswer, rightly, cooled};
+ghost use Rattle.port.specs.Port.{wrongly, wrongAnswer, rightly, cooled};
 use refusal::Refusal;
 
 pub struct Port {
@@ -9,14 +9,12 @@ pub struct Port {
 }
 
 // A wrong reply: the third in a row shuts the port for 900 ticks.
-pub fn after_wrong(port: Port) -> Port
+pub fn after_wrong(mut port: Port) -> Port
     ensures { λ r. ⌜ r ≡ wrongly port ⌝ }
 {
     if port.wrong < 2 {
-        return Port {
-            wrong: port.wrong + 1,
-            shut: port.shut,
-        };
+        port.wrong += 1;
+        return port;
     }
     Port {
         wrong: 0,
@@ -33,23 +31,19 @@ pub fn wrong_answer(port: Port) -> Refusal
     Refusal::ReplyWrongThird
 }
 
-pub fn after_right(port: Port) -> Port
+pub fn after_right(mut port: Port) -> Port
     ensures { λ r. ⌜ r ≡ rightly port ⌝ }
 {
-    Port {
-        wrong: 0,
-        shut: port.shut,
-    }
+    port.wrong = 0;
+    port
 }
 
-pub fn after_tick(port: Port) -> Port
+pub fn after_tick(mut port: Port) -> Port
     ensures { λ r. ⌜ r ≡ cooled port ⌝ }
 {
     if 0 < port.shut {
-        return Port {
-            wrong: port.wrong,
-            shut: port.shut - 1,
-        };
+        port.shut -= 1;
+        return port;
     }
     port
 }
@@ -68,11 +62,9 @@ pub fn right(port: &mut Port)
     *port = after_right(*port);
 }
 
-// A wrong reply, with its answer: 61, or 62 for the third in a row.
-pub fn wrong(port: &mut Port) -> Refusal
-    ensures { λ r. ⌜ (r ≡ wrongAnswer (now (port .entry))) × (now (port .exit) ≡ wrongly (now (port .entry))) ⌝ }
+// The answer is `wrong_answer` of the record as it was.
+pub fn wrong(port: &mut Port)
+    ensures { λ _. ⌜ now (port .exit) ≡ wrongly (now (port .entry)) ⌝ }
 {
-    let before = *port;
-    *port = after_wrong(before);
-    wrong_answer(before)
+    *port = after_wrong(*port);
 }
