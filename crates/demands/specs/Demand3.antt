@@ -11,7 +11,7 @@ use Rattle.password.specs.Password.{Algorithm, password}
 use Rattle.login.specs.Table.{Room, State, accountOf, turnId}
 use Rattle.challenge.specs.Challenges.{challengeText}
 use Rattle.login.specs.Steps.{join, challengeFor}
-use Rattle.login.specs.Calls.{Call, after, run}
+use Rattle.tables.specs.Calls.{Call, after, run}
 use Rattle.demands.specs.Turns.{Reached, ticks, quiet, quietMeanwhile, HasTurn, TurnBegins}
 use Rattle.demands.specs.Day.{Day}
 use Rattle.demands.specs.Reach.{wait-ends, all-meanwhile, joined-waits, reached-run, reached-after}

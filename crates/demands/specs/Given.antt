@@ -27,7 +27,7 @@ use Rattle.cards.specs.Cards.{cardChecked, cardWritten}
 use Rattle.line.specs.Line.{some, joined, others, turnWithout, without}
 use Rattle.login.specs.Table.{placeOf}
 use Rattle.login.specs.Steps.{enrolChecked, enrol, remove, joinChecked, join, leaveChecked, leave, turnChecked, challenge, offered, replyRead, reply, renewChecked, renewRead, renew}
-use Rattle.login.specs.Calls.{Call, run}
+use Rattle.tables.specs.Calls.{Call, run}
 use Rattle.demands.specs.Listed.{listed, callNumber, Given}
 use Rattle.demands.specs.Each.{Each, each-append}
 

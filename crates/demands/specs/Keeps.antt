@@ -12,11 +12,11 @@ use Rattle.text.specs.Tests.{either, cases}
 use Rattle.line.specs.declared.Place.{Place}
 use Rattle.line.specs.Line as Line
 use Rattle.line.specs.Line.{Waiting, ofPort, ofAccount, first, others, without, tickedFront}
-use Rattle.login.specs.declared.port.Port.{Port}
+use Rattle.port.specs.declared.Port.{Port}
 use Rattle.login.specs.Table.{Room, State, free, freshPort, fresh, placeOf, isThere, accountOf, portOf, turnId, withRoom, withPort}
 use Rattle.login.specs.Steps as Steps
-use Rattle.login.specs.Steps.{wrongly, rightly, cooled}
-use Rattle.login.specs.Calls.{Call, after, run}
+use Rattle.port.specs.Port.{wrongly, rightly, cooled}
+use Rattle.tables.specs.Calls.{Call, after, run}
 use Rattle.demands.specs.Turns.{Reached}
 use Rattle.demands.specs.Each.{Each, each-set, each-get, each-append, each-replicate, each-map, each-weaker}
 use Rattle.demands.specs.Rooms.{holder-id, there-parts, other-there, same-there, not-there}

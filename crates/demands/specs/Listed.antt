@@ -16,7 +16,7 @@ use Rattle.reply.specs.Reading.{readingOf}
 use Rattle.reply.specs.Writing.{hexOf}
 use Rattle.cards.specs.Cards.{cardWritten}
 use Rattle.login.specs.Table.{fresh}
-use Rattle.login.specs.Calls.{Call, Answer, writtenAnswer, answer, numbers, run}
+use Rattle.tables.specs.Calls.{Call, Answer, writtenAnswer, answer, numbers, run}
 
 -- One of the numbers is n.
 abbrev pub isIn : ℕ → List ℕ → Bool

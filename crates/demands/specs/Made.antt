@@ -8,7 +8,7 @@ use Rattle.text.specs.Kinds.{isLower, isDigit}
 use Rattle.text.specs.Tests.{every}
 use Rattle.line.specs.declared.Place.{Place}
 use Rattle.line.specs.Line.{Waiting, ofPort, some}
-use Rattle.login.specs.declared.port.Port.{Port}
+use Rattle.port.specs.declared.Port.{Port}
 use Rattle.login.specs.Table.{Room, State, isThere, portOf}
 use Rattle.demands.specs.Each.{Each}
 

@@ -8,7 +8,7 @@ use Rattle.line.specs.Line as Line
 use Rattle.line.specs.Line.{Waiting, ofPort, ofAccount, standsIn, without}
 use Rattle.login.specs.Table.{State}
 use Rattle.login.specs.Steps as Steps
-use Rattle.login.specs.Calls.{Call}
+use Rattle.tables.specs.Calls.{Call}
 use Rattle.demands.specs.Turns.{tickOf, quiet}
 use Rattle.demands.specs.Outcome as Outcome
 use Rattle.demands.specs.Outcome.{Outcome, NotBy, NotFor}

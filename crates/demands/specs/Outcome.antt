@@ -22,7 +22,7 @@ use Rattle.login.specs.Table.{Room, State, free, placeOf, isThere, accountOf, p
 use Rattle.login.specs.Checks.{idGiven, countWithin, idNew, roomLeft, accountThere, portKnown, notInLine, portOpen, notUsedUp, inLine, inFront, seedNew}
 use Rattle.login.specs.Steps as Steps
 use Rattle.login.specs.Steps.{refused, replyRefused, done, newRoom, enrolChecked, joinChecked, leaveChecked, turnChecked, renewChecked, lowered, offered, read}
-use Rattle.login.specs.Calls.{Call, after}
+use Rattle.tables.specs.Calls.{Call, after}
 use Rattle.demands.specs.Turns.{tickOf, quiet}
 use Rattle.demands.specs.Each.{Each}
 use Rattle.demands.specs.Made.{isKept, AccountGood}

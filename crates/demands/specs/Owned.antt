@@ -13,7 +13,7 @@ use Rattle.line.specs.Line as Line
 use Rattle.line.specs.Line.{Waiting, ofPort, ofAccount, some, standsIn, first, others, without, tickedFront}
 use Rattle.login.specs.Table.{State, free, isThere, accountOf, hasTurn, turnId}
 use Rattle.login.specs.Steps as Steps
-use Rattle.login.specs.Calls.{Call, after, run}
+use Rattle.tables.specs.Calls.{Call, after, run}
 use Rattle.demands.specs.Turns.{quiet, HasTurn}
 use Rattle.demands.specs.Each.{Each}
 use Rattle.demands.specs.Rooms.{there-parts, other-same}

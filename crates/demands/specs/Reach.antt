@@ -13,7 +13,7 @@ use Rattle.refusal.specs.declared.Checked.{Checked}
 use Rattle.refusal.specs.Checks.{unless}
 use Rattle.login.specs.Table.{State, fresh, hasTurn, turnId, withLine}
 use Rattle.login.specs.Steps.{refused, done, joinChecked, join}
-use Rattle.login.specs.Calls.{Call, after, run}
+use Rattle.tables.specs.Calls.{Call, after, run}
 use Rattle.demands.specs.Turns.{Reached, tickOf, ticks, quiet, quietMeanwhile, HasTurn, TurnBegins}
 use Rattle.demands.specs.Outcome.{outcome, join-good}
 use Rattle.demands.specs.Made.{TurnRight, Standing}

@@ -36,7 +36,7 @@ use Rattle.login.specs.Table.{Room, State, holds, isThere, accountOf, portOf, h
 use Rattle.login.specs.Checks.{inOrder, idGiven, countWithin, idNew, roomLeft, accountThere, portKnown, notInLine, portOpen, notUsedUp, inLine, inFront, seedNew}
 use Rattle.login.specs.Steps as Steps
 use Rattle.login.specs.Steps.{After, refused, replyRefused, done, enrolChecked, joinChecked, leaveChecked, turnChecked, renewChecked, lowered, newRoom, offered, read}
-use Rattle.login.specs.Calls.{Call, checkedAnswer, repliedAnswer, writtenAnswer, answer}
+use Rattle.tables.specs.Calls.{Call, checkedAnswer, repliedAnswer, writtenAnswer, answer}
 use Rattle.demands.specs.Turns.{HasTurn}
 use Rattle.demands.specs.Each.{Each}
 use Rattle.demands.specs.Listed.{isIn, refusalsOf, Within, ReadWithin, ChallengeWithin, WriteWithin}

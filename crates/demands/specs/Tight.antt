@@ -15,7 +15,7 @@ use Rattle.inputs.specs.Checks.{plain}
 use Rattle.line.specs.Line.{some, joined, others, turnWithout, without, ticked}
 use Rattle.login.specs.Table.{fresh, placeOf, hasTurn}
 use Rattle.login.specs.Steps.{enrolChecked, enrol, joinChecked, join, tick}
-use Rattle.login.specs.Calls.{Call, run}
+use Rattle.tables.specs.Calls.{Call, run}
 use Rattle.demands.specs.Turns.{tickOf, ticks, TurnBegins}
 
 -- An account, and three ports in line for it.

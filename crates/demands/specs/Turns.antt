@@ -5,7 +5,7 @@ use mathlib.Core.Bool.{Bool, true, not, _&&_, _||_}
 use mathlib.Core.List.{List, [], _∷_, _++_}
 use lib.Dec.{eqb}
 use Rattle.login.specs.Table.{State, fresh, hasTurn, turnId}
-use Rattle.login.specs.Calls.{Call, after, run}
+use Rattle.tables.specs.Calls.{Call, after, run}
 
 -- "From a fresh table, after any calls": the table s is one that calls make.
 pub record Reached (s : State) : Type 0 where

@@ -26,7 +26,7 @@ use Rattle.login.specs.Table.{Room, State, accountOf, portOf, turnId}
 use Rattle.login.specs.Checks.{accountThere}
 use Rattle.login.specs.Steps as Steps
 use Rattle.login.specs.Steps.{After, refused, replyRefused, done, enrolChecked, joinChecked, leaveChecked, turnChecked, renewChecked, lowered, newRoom, offered, read}
-use Rattle.login.specs.Calls.{Call, Answer, checkedAnswer, repliedAnswer, answer, after}
+use Rattle.tables.specs.Calls.{Call, Answer, checkedAnswer, repliedAnswer, answer, after}
 use Rattle.demands.specs.Listed.{isIn}
 
 settled-unchanged : (s s′ : State) (why : Refusal) (check : Checked)

@@ -12,7 +12,7 @@ use Rattle.text.specs.Tests.{either, both}
 use Rattle.line.specs.declared.Place.{Place}
 use Rattle.line.specs.Line as Line
 use Rattle.line.specs.Line.{Waiting, ofPort, ofAccount, some, standsIn, turnJoined, joined, others, turnWithout, without, ticked}
-use Rattle.login.specs.Calls.{Call}
+use Rattle.tables.specs.Calls.{Call}
 use Rattle.demands.specs.Turns.{tickOf, quiet}
 use Rattle.demands.specs.Made.{Once, TurnRight, Standing}
 use Rattle.demands.specs.Few.{three-others}

@@ -16,13 +16,14 @@ use Rattle.password.specs.Password.{Algorithm, hash, bytesOf}
 use Rattle.login.specs.declared.checks.Turn.{Turn}
 use Rattle.line.specs.declared.Line.{Line}
 use Rattle.line.specs.Line.{waiting, left}
-use Rattle.login.specs.declared.port.Port.{Port}
+use Rattle.port.specs.declared.Port.{Port}
+use Rattle.port.specs.Port.{wrongly, wrongAnswer, rightly}
 use Rattle.login.specs.declared.table.Account.{Account}
 use Rattle.login.specs.declared.table.Table.{Table}
 use Rattle.login.specs.declared.table.Replied.{Replied}
 use Rattle.login.specs.Table.{Room, State, view, roomOf, free, placeOf, holds, isThere, accountOf, portOf, turnId}
 use Rattle.login.specs.Checks.{countWithin}
-use Rattle.login.specs.Steps.{After, answered, rightly, wrongly, wrongAnswer, turnChecked, renewChecked, offered, accepted, rejected, read, replyRefused, renewRead, renew}
+use Rattle.login.specs.Steps.{After, answered, turnChecked, renewChecked, offered, accepted, rejected, read, replyRefused, renewRead, renew}
 use Rattle.login.specs.Passed.{both-passed, turn-passed}
 use Rattle.login.specs.Inside.{turnOf, HasTurn, unread, newChecked, renewed}
 use Rattle.login.proofs.Rooms.{blank, room-at, map-set, there-holds}

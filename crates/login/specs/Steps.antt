@@ -1,8 +1,8 @@
 -- The written steps, one for each call: document 01, 'Table, ports and turns', in its order and words.
-use Prim.Native.Nat.{ℕ, _+_, _-_}
+use Prim.Native.Nat.{ℕ, _-_}
 use mathlib.Core.Bool.{Bool, cond}
 use mathlib.Core.List.{List, [], _∷_, map}
-use lib.Dec.{eqb, leb}
+use lib.Dec.{eqb}
 use Rattle.refusal.specs.declared.Refusal.{Refusal}
 use Rattle.refusal.specs.declared.Checked.{Checked}
 use Rattle.refusal.specs.declared.Reading.{Reading}
@@ -14,7 +14,7 @@ use Rattle.password.specs.Password.{Algorithm, hash, bytesOf, numberOf}
 use Rattle.challenge.specs.Challenges.{challengeText, challengeWritten}
 use Rattle.reply.specs.Reading.{readingOf}
 use Rattle.line.specs.Line.{joined, left, removed, ticked}
-use Rattle.login.specs.declared.port.Port.{Port}
+use Rattle.port.specs.Port.{wrongly, wrongAnswer, rightly, cooled}
 use Rattle.login.specs.declared.table.Replied.{Replied}
 use Rattle.login.specs.declared.table.Settled.{Settled}
 use Rattle.login.specs.declared.table.Answered.{Answered}
@@ -99,17 +99,6 @@ challenge port room s =
     unless Written.Refused (turnChecked port s)
     (challengeWritten (accountOf (turnId s) s .seed) (accountOf (turnId s) s .count - 1) room)
 
--- A wrong reply at a port: "its wrong run grows by 1, answer 61; at 3 the run is cleared, shut ticks become 900, answer 62".
-abbrev pub wrongly : Port → Port
-wrongly p = cond (leb 3 (p .wrong + 1)) (record { wrong = 0; shut = 900 }) (record { wrong = p .wrong + 1; shut = p .shut })
-
-abbrev pub wrongAnswer : Port → Refusal
-wrongAnswer p = cond (leb 3 (p .wrong + 1)) Refusal.ReplyWrongThird Refusal.ReplyWrong
-
--- A right one: "clear the port's wrong run".
-abbrev pub rightly : Port → Port
-rightly p = record { wrong = 0; shut = p .shut }
-
 -- "Hash the password once. If it equals the stored one" the account becomes `next`, the port's wrong run is cleared and "the
 -- port leaves; the answer has the new count. If not: the port leaves and its wrong run grows by 1, answer 61 [or] 62".
 abbrev pub accepted : ℕ → Room → State → After Replied
@@ -161,8 +150,5 @@ renew port count seed new text s =
 
 -- Tick: "each shut count above 0 falls by 1; then, if the line isn't empty, the turn falls by 1, and at 0 the front port
 -- leaves".
-abbrev pub cooled : Port → Port
-cooled p = record { wrong = p .wrong; shut = p .shut - 1 }
-
 unfoldable pub tick : State → State
 tick s = record { rooms = s .rooms; ports = map cooled (s .ports); line = ticked (s .line) }

@@ -6,7 +6,7 @@ use lib.Dec.{eqb, ltb}
 use lib.ListN.{length, getD, take, set, replicate}
 use Rattle.line.specs.declared.Front.{Front}
 use Rattle.line.specs.Line.{Waiting, waiting, empty, frontOf}
-use Rattle.login.specs.declared.port.Port.{Port}
+use Rattle.port.specs.declared.Port.{Port}
 use Rattle.login.specs.declared.table.Account.{Account}
 use Rattle.login.specs.declared.table.Table.{Table}
 

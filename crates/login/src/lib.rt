@@ -1,7 +1,5 @@
 // The login table of one controller: accounts, ports, the line of those that wait, and the eight calls.
 
-// A port's own record: its run of wrong replies and its shut ticks.
-pub mod port;
 // The table and what its calls answer.
 pub mod table;
 // The checks of the calls.

@@ -4,8 +4,8 @@ ghost use mathlib.Core.List.{map};
 ghost use Prim.Native.Nat.{_≤_};
 ghost use Rattle.login.specs.Table as spec;
 ghost use Rattle.login.specs.Inside.{roomAt};
-use crate::port::Port;
 use line::Line;
+use port::Port;
 use refusal::Checked;
 use refusal::Refusal;
 

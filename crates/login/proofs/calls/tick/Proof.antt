@@ -6,9 +6,10 @@ use borrow.Author.Needs.{needs}
 use lib.ListN.{length, getD}
 use Rattle.line.specs.Laws.{unmapped}
 use Rattle.line.specs.Line.{Waiting}
-use Rattle.login.specs.declared.port.Port.{Port}
+use Rattle.port.specs.declared.Port.{Port}
 use Rattle.login.specs.Table.{State, view, freshPort}
-use Rattle.login.specs.Steps.{cooled, tick}
+use Rattle.port.specs.Port.{cooled}
+use Rattle.login.specs.Steps.{tick}
 use Rattle.login.proofs.Rooms.{four-of}
 use Rattle.login.proofs.calls.tick.Statement.{statement}
 use Rattle.login.proofs.calls.tick.Tie as tie

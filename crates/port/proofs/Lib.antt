@@ -1,0 +1,2 @@
+-- What the proofs of `port`'s functions share.
+pub mod Lent

@@ -1,0 +1,2 @@
+-- The definitions that the promises of `port` cite.
+pub mod Port
