@@ -1,6 +1,6 @@
 -- The digest's bytes, written by two registers at a time.
 use Prim.Native.Nat.{ℕ, _+_, _-_}
-use mathlib.Core.Path.{_≡_, sym, subst}
+use mathlib.Core.Path.{_≡_, subst}
 use mathlib.Core.List.{List, _++_}
 use lib.ListN.{length}
 use borrow.Rule.Slice.PartMut.{midOf, putMid}

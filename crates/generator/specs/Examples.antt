@@ -1,7 +1,7 @@
 -- One row of RFC 2289, Appendix C, at counts 0 and 1, as a theorem; the program `vectors` runs them all.
 use Prim.Native.Nat.{ℕ}
 use mathlib.Core.Path.{_≡_, refl}
-use mathlib.Core.List.{List, [], _∷_, map}
+use mathlib.Core.List.{[], _∷_, map}
 use Rattle.refusal.specs.declared.Reading.{Reading}
 use Rattle.block.specs.Lists.{upTo}
 use Rattle.block.specs.Padding.{paddedByte, paddedWord, blockAt, absorbed}

@@ -1,6 +1,5 @@
 -- A password is below 2 ^ 64: eight bytes.
 use Prim.Native.Nat.{ℕ, zero, suc, _/_, _%_, _^_, _<_}
-use mathlib.Core.Path.{_≡_}
 use mathlib.Core.List.{List, [], _∷_, _++_, map}
 use native.Mathlib.Nat.{mod-lt}
 use native.Mathlib.Omega.{arith}

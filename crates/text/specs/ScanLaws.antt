@@ -1,15 +1,15 @@
 -- Laws of runs and tokens.
-use Prim.Native.Nat.{ℕ, suc, zero, _+_, _-_, _≤_, _<_, zero-le, suc-le-suc}
+use Prim.Native.Nat.{ℕ, suc, _+_, _-_, _≤_, _<_, zero-le, suc-le-suc}
 use mathlib.Core.Path.{_≡_, refl, sym, _∙_, ap, ap₂}
 use mathlib.Core.Bool.{Bool, true, false, cond, not, _&&_}
-use mathlib.Core.List.{List, [], _∷_, _++_, append-assoc, append-nil}
+use mathlib.Core.List.{List, [], _∷_, _++_, append-nil}
 use native.Mathlib.Omega.{arith}
 use native.Mathlib.Numerals.{add-one}
 use lib.ListN.{length, getD, take, drop, length-take, drop-of-length-le}
 use lib.Seq.{drop-cons, append-snoc, take-length, drop-length, take-append-seam, drop-append-seam}
 use lib.Dec.{eqb, eqb·suc-suc, eqb·zero-suc}
 use borrow.Author.Tests.{not-true}
-use Rattle.text.specs.Tests.{every, either, cases, both}
+use Rattle.text.specs.Tests.{every, either, both}
 use Rattle.text.specs.Kinds.{isWhite, isSolid}
 use Rattle.text.specs.Scan.{runOf, piece, parted, tokens, unspaced}
 

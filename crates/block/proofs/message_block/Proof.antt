@@ -1,7 +1,6 @@
 -- `message_block` meets its promise: the words before k are the block's.
 use Prim.Native.Nat.{ℕ, _+_, _*_, _-_}
 use borrow.Author.Needs.{needs}
-use native.Mathlib.Omega.{arith}
 use Rattle.block.specs.Padding.{little, paddedWord, blockAt}
 use Rattle.block.specs.Lists.{Filling, filling-starts, filling-goes-on, filling-ends}
 use Rattle.block.proofs.message_block.Statement.{statement}

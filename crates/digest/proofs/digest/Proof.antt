@@ -1,8 +1,7 @@
 -- `digest` meets its promise: 12, then 40, then the four registers at the front of the buffer.
-use mathlib.Core.Path.{_≡_, refl, ap, _∙_}
+use mathlib.Core.Path.{refl, ap, _∙_}
 use borrow.Author.Needs.{needs}
 use borrow.Author.Tests.{lt-ltb, le-ltb, lt-leb, le-leb}
-use lib.ListN.{length}
 use Rattle.refusal.specs.declared.Written.{Written}
 use Rattle.md5.specs.Laws.{length-md5}
 use Rattle.digest.proofs.Bytes.{digest-put}

@@ -1,7 +1,5 @@
 -- `put4` meets its promise: four stores at the front.
-use Prim.Native.Nat.{ℕ, _%_, _/_}
 use mathlib.Core.Path.{refl}
-use mathlib.Core.List.{_∷_, []}
 use borrow.Author.Needs.{needs}
 use native.Mathlib.Omega.{arith}
 use lib.ListN.{length-set}

@@ -1,6 +1,6 @@
 -- `first` meets its promise: what the buffer holds at its front is hashed.
 use Prim.Native.Nat.{ℕ, _≤_}
-use mathlib.Core.Path.{_≡_, refl, sym, ap, ap₂, _∙_}
+use mathlib.Core.Path.{refl, sym, ap, ap₂, _∙_}
 use mathlib.Core.List.{List, _++_, map}
 use borrow.Author.Needs.{needs}
 use native.Mathlib.Omega.{arith}

@@ -1,7 +1,5 @@
 -- `mixed` meets its promise: each round on what the one before left.
-use Prim.Native.Nat.{ℕ}
 use mathlib.Core.Path.{ap, _∙_}
-use mathlib.Core.List.{List}
 use borrow.Author.Needs.{needs}
 use Rattle.rounds.specs.declared.State.{State}
 use Rattle.rounds.specs.Rounds.{G, H, I, round2, round3, round4, increased}

@@ -4,7 +4,6 @@ use borrow.Author.Tests.{leb-true}
 use mathlib.Core.Path.{_≡_, sym}
 use mathlib.Core.Bool.{true, false}
 use Prim.Native.Nat.{ℕ, _≤_, _<_, _-_}
-use native.Mathlib.Omega.{arith}
 use lib.Dec.{leb}
 use Rattle.text.specs.Kinds.{isDigit, lowerOf}
 use Rattle.text.specs.Digits.{digitValue}

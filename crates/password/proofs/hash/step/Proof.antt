@@ -3,11 +3,10 @@ use Prim.Native.Nat.{ℕ, _/_, _%_, _^_, _<_}
 use mathlib.Core.Path.{_≡_, ap, ap₂, _∙_}
 use mathlib.Core.List.{List, _++_}
 use borrow.Author.Needs.{needs}
-use native.Mathlib.Nat.{mod-lt}
 use native.Mathlib.Omega.{arith}
 use Rattle.md5.specs.Md5.{md5, bytes4, registers}
 use Rattle.md5.specs.Laws.{bytes4-word}
-use Rattle.password.specs.Password.{hash, bytesOf}
+use Rattle.password.specs.Password.{hash}
 use Rattle.password.proofs.Folded.{foldedOf}
 use Rattle.password.proofs.hash.step.Statement.{statement}
 use Rattle.password.proofs.hash.step.Tie as tie
