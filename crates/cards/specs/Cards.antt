@@ -10,7 +10,8 @@ use Rattle.refusal.specs.Checks.{unless, must}
 use Rattle.text.specs.Front.{writtenOf}
 use Rattle.inputs.specs.Checks.{phraseChecked}
 use Rattle.password.specs.Password.{Algorithm, password}
-use Rattle.reply.specs.Writing.{hexOf, wordsOf}
+use Rattle.hex.specs.Hex.{hexOf}
+use Rattle.spelling.specs.Spelling.{wordsOf}
 use Rattle.challenge.specs.declared.reading.Challenge.{Challenge}
 use Rattle.challenge.specs.Counts.{decimalOf}
 use Rattle.challenge.specs.Challenges.{challengeOf, seedOf}

@@ -15,7 +15,7 @@ use Rattle.inputs.specs.Checks.{plain}
 use Rattle.password.specs.Password.{fold, numberAfter as bytesAfter, hash, password}
 use Rattle.dictionary.specs.Words.{wordsIn, lines, words}
 use Rattle.sixwords.specs.Places.{pairs, pairSum, whole, cut, placesOf}
-use Rattle.reply.specs.Writing.{spacedFrom}
+use Rattle.spelling.specs.Spelling.{spacedFrom}
 use Rattle.challenge.specs.Counts.{isCount}
 use Rattle.challenge.specs.Challenges.{opening, algorithm, tokenAt, nextAt, countAt, seedAt, challengeOf}
 use Rattle.cards.specs.Cards.{lineOf, cardText, cardChecked, cardOf}

@@ -1,4 +1,4 @@
--- Laws of cards: how long one is, line after line, and that each line holds the generator's password.
+-- Laws of cards: how long one is, and line after line.
 use Prim.Native.Nat.{ℕ, zero, suc, _+_, _-_, _*_, _^_, _≤_, _<_}
 use mathlib.Core.Path.{_≡_, refl, sym, _∙_, ap, ap₂}
 use mathlib.Core.List.{List, [], _∷_, _++_, append-assoc, append-nil}
@@ -6,8 +6,9 @@ use native.Mathlib.Omega.{arith}
 use native.Mathlib.Nat.{suc-add}
 use native.Mathlib.Numerals.{add-one}
 use lib.ListN.{length, length-append}
-use Rattle.reply.specs.Writing.{hexOf, wordsOf}
-use Rattle.reply.specs.Laws.{hex-length, words-length, hex-written-read, words-written-read}
+use Rattle.hex.specs.Hex.{hexOf}
+use Rattle.spelling.specs.Spelling.{wordsOf}
+use Rattle.spelling.specs.Laws.{words-length}
 use Rattle.challenge.specs.Counts.{widthOf, decimalOf}
 use Rattle.challenge.specs.Laws.{length-decimal, width-few, must-good, read-seed-good, read-count-low}
 use mathlib.Core.Bool.{Bool, true, false, _&&_}
@@ -18,11 +19,11 @@ use Rattle.refusal.specs.declared.Checked.{Checked}
 use Rattle.refusal.specs.declared.Reading.{Reading}
 use Rattle.refusal.specs.Checks.{unless, must}
 use Rattle.text.specs.Tests.{both}
+use Rattle.hex.specs.Laws.{hex-length}
 use Rattle.inputs.specs.Checks.{phraseChecked}
 use Rattle.password.specs.Password.{Algorithm, password, generated}
 use Rattle.password.specs.Laws.{generated-good}
 use Rattle.password.specs.Bounds.{password-bound}
-use Rattle.reply.specs.Reading.{readingOf}
 use Rattle.challenge.specs.declared.reading.Challenge.{Challenge}
 use Rattle.challenge.specs.Challenges.{challengeOf, seedOf}
 use Rattle.cards.specs.Cards.{lineOf, cardText, challengeChecked, countOf, linesChecked, cardChecked, cardOf}
@@ -32,8 +33,8 @@ unfolding lineOf
 length-line count p = simp length-append (omega (arith, length-decimal count, hex-length p))
 
 -- "99 lines of 52 bytes": no line is longer
-pub line-length : (count p : ℕ) → p < 2 ^ 64 → length (lineOf count p) ≤ 52
-line-length count p h = omega (arith, length-line count p, width-few count, words-length p h)
+pub line-length : (count p : ℕ) → length (lineOf count p) ≤ 52
+line-length count p = omega (arith, length-line count p, width-few count, words-length p)
 
 module _ (f : ℕ → ℕ) where
   -- i lines, and then m lines
@@ -66,10 +67,10 @@ module _ (f : ℕ → ℕ) where
   card-room i k n h =
       omega (arith, simp length-append at (ap length (card-line i k n h)))
 
-  pub card-length : ((count : ℕ) → f count < 2 ^ 64) → (k n : ℕ) → length (cardText f n k) ≤ 52 * k
+  pub card-length : (k n : ℕ) → length (cardText f n k) ≤ 52 * k
   unfolding cardText
-  card-length small zero n = omega arith
-  card-length small (suc k) n = rw length-append (omega (arith, line-length n (f n) (small n), card-length small k (n - 1)))
+  card-length zero n = omega arith
+  card-length (suc k) n = rw length-append (omega (arith, line-length n (f n), card-length k (n - 1)))
 
 -- cards with the same password at each of their counts are the same
 pub card-same : (f g : ℕ → ℕ) (k n : ℕ) → k ≤ n → ((count : ℕ) → n < count + k → count ≤ n → f count ≡ g count) → cardText f n k ≡ cardText g n k
@@ -94,12 +95,12 @@ both-good Checked.Good b e = (refl, e)
 both-good (Checked.Refused why) b e = let z : _≡_ {A = ℕ} 0 1 = cc in absurd (omega arith)
 
 -- a challenge with nothing wrong is read
-is-read : (c : Challenge) → challengeChecked c ≡ Checked.Good → (n s l u : ℕ) × (c ≡ Challenge.Read n s l u)
+pub is-read : (c : Challenge) → challengeChecked c ≡ Checked.Good → (n s l u : ℕ) × (c ≡ Challenge.Read n s l u)
 is-read (Challenge.Read n s l u) e = (n, s, l, u, refl)
 is-read (Challenge.Refused why) e = let z : _≡_ {A = ℕ} 0 1 = cc in absurd (omega arith)
 
 module _ (phrase challenge : List ℕ) (k : ℕ) (e : cardChecked phrase challenge k ≡ Checked.Good) where
-  checks-good : (phraseChecked phrase ≡ Checked.Good) × (challengeChecked (challengeOf challenge) ≡ Checked.Good) × (linesChecked k (countOf (challengeOf challenge)) ≡ Checked.Good)
+  pub checks-good : (phraseChecked phrase ≡ Checked.Good) × (challengeChecked (challengeOf challenge) ≡ Checked.Good) × (linesChecked k (countOf (challengeOf challenge)) ≡ Checked.Good)
   unfolding cardChecked
   checks-good =
       let a = both-good (phraseChecked phrase) _ e in
@@ -115,34 +116,4 @@ module _ (phrase challenge : List ℕ) (k : ℕ) (e : cardChecked phrase challen
   pub largest-card : length (cardOf phrase challenge k) ≤ 5148
   unfolding cardOf
   largest-card =
-      omega (arith, card-length (password Algorithm.md5 phrase (seedOf challenge)) (password-bound Algorithm.md5 phrase (seedOf challenge)) k (countOf (challengeOf challenge)), card-bounds)
-
-  -- the generator's answer at a count of the card
-  generated-there : (i : ℕ) → generated Algorithm.md5 phrase (seedOf challenge) (countOf (challengeOf challenge) - i) ≡ Reading.Password (password Algorithm.md5 phrase (seedOf challenge) (countOf (challengeOf challenge) - i))
-  generated-there i =
-      let read = is-read (challengeOf challenge) (checks-good .1) in
-      let low = read-count-low (read .0) (read .1) (read .2) (read .3) challenge (read .4) in
-      let count : countOf (challengeOf challenge) ≡ read .0 = ap countOf (read .4) in
-      generated-good Algorithm.md5 phrase (seedOf challenge) _ (checks-good .0) (read-seed-good (read .0) (read .1) (read .2) (read .3) challenge (read .4)) (omega arith)
-
-  -- Each line's count with its words or its hex, read as a reply, is the password that the generator gives at that
-  -- count: the card is the i lines before, the line for the count n - i, and the lines after.
-  pub card-lines : (i : ℕ) → i < k →
-      let n = countOf (challengeOf challenge) in
-      let passwordAt = password Algorithm.md5 phrase (seedOf challenge) in
-      let p = passwordAt (n - i) in
-      (cardOf phrase challenge k
-      ≡ cardText passwordAt n i
-      ++ (decimalOf (n - i) ++ 32 ∷ [] ++ hexOf p ++ 32 ∷ [] ++ wordsOf p ++ 10 ∷ [])
-      ++ cardText passwordAt (n - i - 1) (k - i - 1))
-      × (readingOf (hexOf p) ≡ generated Algorithm.md5 phrase (seedOf challenge) (n - i))
-      × (readingOf (wordsOf p) ≡ generated Algorithm.md5 phrase (seedOf challenge) (n - i))
-  unfolding cardOf lineOf
-  card-lines i h =
-      let n = countOf (challengeOf challenge) in
-      let passwordAt = password Algorithm.md5 phrase (seedOf challenge) in
-      let small = password-bound Algorithm.md5 phrase (seedOf challenge) (n - i) in (
-        card-line passwordAt i k n h,
-        hex-written-read (passwordAt (n - i)) small ∙ sym (generated-there i),
-        words-written-read (passwordAt (n - i)) small ∙ sym (generated-there i),
-      )
+      omega (arith, card-length (password Algorithm.md5 phrase (seedOf challenge)) k (countOf (challengeOf challenge)), card-bounds)

@@ -4,17 +4,18 @@ ghost use mathlib.Core.List.{[], _∷_, _++_};
 ghost use Prim.Native.Nat.{_+_, _≤_};
 ghost use lib.ListN.{length};
 ghost use Rattle.text.specs.Front.{Put};
-ghost use Rattle.reply.specs.Writing.{hexOf, wordsOf};
+ghost use Rattle.hex.specs.Hex.{hexOf};
+ghost use Rattle.spelling.specs.Spelling.{wordsOf};
 ghost use Rattle.challenge.specs.Counts.{widthOf};
 ghost use Rattle.cards.specs.Cards.{lineOf, cardText};
 ghost use Rattle.cards.specs.Inside.{at as passwordAt};
 use challenge::counts::width;
 use challenge::writing::put_count_space;
+use hex::write_hex;
 use put::copy;
 use refusal::Written;
-use reply::words_length;
-use reply::write_hex;
-use reply::write_words;
+use spelling::words_length;
+use spelling::write_words;
 
 // A password in hex and a space.
 fn put_hex_space(buf: &mut [u8], p: u64) -> usize

@@ -100,14 +100,14 @@ fn join(table: Table, port: u8, id: u16) -> Table {
 // A reply with the password at that count, in hex.
 fn reply(table: Table, port: u8, seed: &[u8], count: u32) -> Table {
     let mut hex = [0u8; 16];
-    reply::write_hex(password_at(seed, count), &mut hex);
+    hex::write_hex(password_at(seed, count), &mut hex);
     answered(login::calls::reply(table, port, &hex))
 }
 
 // A renewal to another seed and count, with the password at a count of the present seed.
 fn renew(table: Table, port: u8, seed: &[u8], count: u32, next: &[u8], next_count: u16) -> Table {
     let mut hex = [0u8; 16];
-    reply::write_hex(password_at(seed, count), &mut hex);
+    hex::write_hex(password_at(seed, count), &mut hex);
     let bytes = eight_bytes::bytes_of(password_at(next, next_count as u32));
     answered(login::calls::renew(table, port, next_count, next, &bytes, &hex))
 }

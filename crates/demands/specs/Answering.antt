@@ -20,9 +20,10 @@ use Rattle.password.specs.Password.{Algorithm, bytesOf, hash, password, generat
 use Rattle.challenge.specs.Counts.{widthOf}
 use Rattle.challenge.specs.Challenges.{challengeOf, seedOf, challengeWritten}
 use Rattle.challenge.specs.ReadBack.{written-read, written-seed-read}
-use Rattle.reply.specs.Writing.{hexOf, wordsOf}
+use Rattle.hex.specs.Hex.{hexOf}
+use Rattle.spelling.specs.Spelling.{wordsOf}
 use Rattle.reply.specs.Reading.{readingOf}
-use Rattle.reply.specs.Laws.{hex-written-read, words-written-read}
+use Rattle.readback.specs.Replies.{hex-written-read, words-written-read}
 use Rattle.login.specs.declared.table.Replied.{Replied}
 use Rattle.login.specs.Table.{Room, State, accountOf, turnId}
 use Rattle.login.specs.Steps as Steps

@@ -9,7 +9,8 @@ use Rattle.text.specs.Front.{leaves}
 use Rattle.password.specs.Password.{Algorithm, bytesOf, hash, password, generated}
 use Rattle.challenge.specs.declared.reading.Challenge.{Challenge}
 use Rattle.challenge.specs.Challenges.{challengeOf, seedOf}
-use Rattle.reply.specs.Writing.{hexOf, wordsOf}
+use Rattle.hex.specs.Hex.{hexOf}
+use Rattle.spelling.specs.Spelling.{wordsOf}
 use Rattle.login.specs.declared.table.Replied.{Replied}
 use Rattle.login.specs.Table.{Room, State, accountOf}
 use Rattle.login.specs.Steps.{challengeFor, challenge, reply}

@@ -20,11 +20,12 @@ use Rattle.challenge.specs.declared.reading.Challenge.{Challenge}
 use Rattle.challenge.specs.Counts.{widthOf, decimalOf}
 use Rattle.challenge.specs.Challenges.{challengeOf, seedOf, challengeText}
 use Rattle.challenge.specs.ReadBack.{written-read, written-seed-read}
-use Rattle.reply.specs.Writing.{hexOf, sixWordsOf, wordsOf}
+use Rattle.hex.specs.Hex.{hexOf}
+use Rattle.spelling.specs.Spelling.{sixWordsOf, wordsOf}
 use Rattle.reply.specs.Reading.{sixWords, upperText, readingOf}
-use Rattle.reply.specs.Laws as Laws
+use Rattle.readback.specs.Replies as Laws
 use Rattle.cards.specs.Cards.{cardText, countOf, cardChecked, cardOf}
-use Rattle.cards.specs.Laws as CardLaws
+use Rattle.readback.specs.Cards as CardLaws
 use Rattle.password.specs.Bounds.{password-bound}
 
 -- "what we write we read back as the same password": the hex that was written at the front of a buffer, and the words.

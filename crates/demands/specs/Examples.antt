@@ -16,7 +16,8 @@ use Rattle.challenge.specs.declared.reading.Challenge.{Challenge}
 use Rattle.challenge.specs.Counts.{isCount}
 use Rattle.challenge.specs.Challenges.{opening, algorithm, tokenAt, nextAt, countAt, seedAt, challengeOf, seedOf}
 use Rattle.text.specs.Tests.{same}
-use Rattle.reply.specs.Reading.{isWord, sixWords, foundAfter, sixteenDigits, hexReading, readingOf}
+use Rattle.hex.specs.Hex.{sixteenDigits, hexReading}
+use Rattle.reply.specs.Reading.{isWord, sixWords, foundAfter, readingOf}
 
 -- What an example asks for: the places of a number, its pair sum, what a challenge says, or a reply.
 pub data Asked : Type 0 where

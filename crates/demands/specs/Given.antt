@@ -21,8 +21,9 @@ use Rattle.sixwords.specs.Places as Places
 use Rattle.challenge.specs.Counts.{isCount}
 use Rattle.challenge.specs.Challenges.{opening, algorithm, tokenAt, nextAt, countAt, seedAt, challengeOf}
 use Rattle.text.specs.Tests.{same}
-use Rattle.reply.specs.Writing.{hexOf}
-use Rattle.reply.specs.Reading.{isWord, sixWords, foundAfter, sixteenDigits, hexReading, readingOf}
+use Rattle.hex.specs.Hex.{hexOf}
+use Rattle.hex.specs.Hex.{sixteenDigits, hexReading}
+use Rattle.reply.specs.Reading.{isWord, sixWords, foundAfter, readingOf}
 use Rattle.cards.specs.Cards.{cardChecked, cardWritten}
 use Rattle.line.specs.Line.{some, joined, others, turnWithout, without}
 use Rattle.login.specs.Table.{placeOf}

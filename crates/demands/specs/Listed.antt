@@ -13,7 +13,7 @@ use Rattle.digest.specs.Digest.{digestOf}
 use Rattle.password.specs.Password.{Algorithm, generated}
 use Rattle.challenge.specs.Challenges.{challengeOf}
 use Rattle.reply.specs.Reading.{readingOf}
-use Rattle.reply.specs.Writing.{hexOf}
+use Rattle.hex.specs.Hex.{hexOf}
 use Rattle.cards.specs.Cards.{cardWritten}
 use Rattle.login.specs.Table.{fresh}
 use Rattle.tables.specs.Calls.{Call, Answer, writtenAnswer, answer, numbers, run}

@@ -28,7 +28,8 @@ use Rattle.challenge.specs.declared.reading.Challenge.{Challenge}
 use Rattle.challenge.specs.Counts.{isCount}
 use Rattle.challenge.specs.Challenges.{opening, algorithm, tokenAt, endOf, countAt, seedAt, terminated, step1, step2, step3, step4, step5, found, challengeOf, challengeText, challengeWritten}
 use Rattle.text.specs.Tests.{same}
-use Rattle.reply.specs.Reading.{sixWords, upperText, summed, foundAfter, sixteenDigits, hexReading, readingOf}
+use Rattle.hex.specs.Hex.{sixteenDigits, hexReading}
+use Rattle.reply.specs.Reading.{sixWords, upperText, summed, foundAfter, readingOf}
 use Rattle.cards.specs.Cards.{challengeChecked, countOf, linesChecked, cardChecked, cardOf, cardWritten}
 use Rattle.line.specs.Line.{standsIn}
 use Rattle.login.specs.declared.table.Replied.{Replied}

@@ -20,7 +20,8 @@ use Rattle.dictionary.specs.declared.Found.{Found}
 use Rattle.dictionary.specs.Dictionary.{placeOf}
 use Rattle.sixwords.specs.declared.Number.{Number}
 use Rattle.sixwords.specs.Places.{numberOf as placesNumber}
-use Rattle.reply.specs.Reading.{isWord, sixWords, upperText, summed, foundAfter, sixteenDigits, hexReading, readingOf}
+use Rattle.hex.specs.Hex.{sixteenDigits, hexReading}
+use Rattle.reply.specs.Reading.{isWord, sixWords, upperText, summed, foundAfter, readingOf}
 use Rattle.login.specs.declared.table.Replied.{Replied}
 use Rattle.login.specs.Table.{Room, State, accountOf, portOf, turnId}
 use Rattle.login.specs.Checks.{accountThere}

@@ -4,7 +4,8 @@ ghost use lib.ListN.{length};
 ghost use Rattle.text.specs.Front.{writtenOf};
 ghost use Rattle.password.specs.Password.{numberOf, bytesOf};
 ghost use Rattle.reply.specs.Reading.{readingOf};
-ghost use Rattle.reply.specs.Writing.{hexOf, wordsOf};
+ghost use Rattle.hex.specs.Hex.{hexOf};
+ghost use Rattle.spelling.specs.Spelling.{wordsOf};
 ghost use Rattle.panel.specs.Answers.{readingRow, Reported};
 use crate::answers::LiftReading;
 use crate::answers::LiftWritten;
@@ -22,14 +23,14 @@ pub extern "C" fn lift_read_reply(text: &[u8]) -> LiftReading
 pub extern "C" fn lift_write_hex(password: u64, buf: &mut [u8]) -> LiftWritten
     ensures { λ r. ⌜ Reported (writtenOf (length (now (buf .entry))) (hexOf password)) (hexOf password) (now (buf .entry)) (now (buf .exit)) r ⌝ }
 {
-    written_row(reply::write_hex(password, buf))
+    written_row(hex::write_hex(password, buf))
 }
 
 #[no_mangle]
 pub extern "C" fn lift_write_words(password: u64, buf: &mut [u8]) -> LiftWritten
     ensures { λ r. ⌜ Reported (writtenOf (length (now (buf .entry))) (wordsOf password)) (wordsOf password) (now (buf .entry)) (now (buf .exit)) r ⌝ }
 {
-    written_row(reply::write_words(password, buf))
+    written_row(spelling::write_words(password, buf))
 }
 
 #[no_mangle]

@@ -118,12 +118,12 @@ fn chal(text: &[u8]) {
 }
 
 fn words(password: u64, buf: &mut [u8]) {
-    let result = reply::write_words(password, buf);
+    let result = spelling::write_words(password, buf);
     written(result, buf);
 }
 
 fn hex(password: u64, buf: &mut [u8]) {
-    let result = reply::write_hex(password, buf);
+    let result = hex::write_hex(password, buf);
     written(result, buf);
 }
 

@@ -3,7 +3,6 @@ use Prim.Native.Nat.{ℕ, _≤_, _<_}
 use mathlib.Core.Path.{_≡_, refl, sym, _∙_, ap, ap₂}
 use mathlib.Core.Bool.{Bool, true, false, true≢false, false≢true, cond}
 use mathlib.Core.List.{List, [], _∷_, map}
-use lib.Dec.{ltb}
 use lib.ListN.{length, replicate}
 use borrow.Author.Tests.{lt-ltb, le-ltb}
 use Rattle.refusal.specs.declared.Refusal.{Refusal}
@@ -14,9 +13,9 @@ use Rattle.dictionary.specs.declared.Found.{Found}
 use Rattle.dictionary.specs.Dictionary.{foundOf, placeOf}
 use Rattle.dictionary.specs.Laws.{place-packed}
 use Rattle.reply.specs.declared.tokens.Six.{Six}
-use Rattle.reply.specs.Reading.{isWord, upperText, sixWords, foundAfter, wordsReading, hexReading, readingOf}
-use Rattle.reply.specs.WordLaws.{spelt-token}
-use Rattle.reply.specs.Laws.{six-parts}
+use Rattle.hex.specs.Hex.{hexReading}
+use Rattle.reply.specs.Reading.{isWord, upperText, sixWords, foundAfter, wordsReading, readingOf}
+use Rattle.reply.specs.Laws.{spelt-token, six-parts}
 use Rattle.reply.specs.Inside.{packedToken, sixOf}
 use Rattle.reply.proofs.Scanned.{sixIs}
 

@@ -1,17 +1,15 @@
 -- Six words looked up one after the other.
 use Prim.Native.Nat.{ℕ, suc, _+_, _≤_, _<_}
-use native.Mathlib.Omega.{arith}
 use native.Mathlib.Numerals.{add-one}
-use mathlib.Core.Path.{_≡_, refl, sym, _∙_, ap, ap₂}
-use mathlib.Core.List.{List, [], _∷_, _++_, map}
+use mathlib.Core.Path.{_≡_, sym, _∙_, ap, ap₂}
+use mathlib.Core.List.{List, map}
 use lib.ListN.{length, getD, take, drop, set, drop-of-length-le}
 use lib.Seq.{drop-cons, take-suc-set, take-all}
 use Rattle.refusal.specs.declared.Refusal.{Refusal}
 use Rattle.refusal.specs.declared.Reading.{Reading}
 use Rattle.dictionary.specs.declared.Found.{Found}
-use Rattle.dictionary.specs.Dictionary.{packedAt, foundOf}
+use Rattle.dictionary.specs.Dictionary.{foundOf}
 use Rattle.sixwords.specs.Places.{numberOf}
-use Rattle.sixwords.specs.Laws.{Six, six, six-of}
 use Rattle.reply.specs.Reading.{summed, foundAfter}
 
 module _ (ws ps : List ℕ) (k : ℕ) (h : k < length ws) where
@@ -37,8 +35,3 @@ pub words-known : (ws ps : List ℕ) (k : ℕ) → length ws ≤ k → length ps
     foundAfter (k + 1) (take k ps) (map foundOf (drop k ws)) ≡ summed (numberOf ps)
 unfolding foundAfter
 words-known ws ps k h g = rw (drop-of-length-le ws h, take-all k ps g)
-
--- a list of six by its elements
-pub words-at : (ps : List ℕ) → Six ps → (a b c d e f : ℕ) → a ≡ packedAt (getD ps 0 0) → b ≡ packedAt (getD ps 1 0) → c ≡ packedAt (getD ps 2 0) →
-    d ≡ packedAt (getD ps 3 0) → e ≡ packedAt (getD ps 4 0) → f ≡ packedAt (getD ps 5 0) → a ∷ b ∷ c ∷ d ∷ e ∷ f ∷ [] ≡ map packedAt ps
-words-at ps (six s t u v w x) a b c d e f p q r l m n = λ i. p i ∷ q i ∷ r i ∷ l i ∷ m i ∷ n i ∷ []

@@ -1,15 +1,10 @@
 -- Nothing outside this crate rests on these: what its private functions answer.
-use Prim.Native.Nat.{ℕ, zero, suc, _+_}
-use mathlib.Core.Bool.{Bool, true, false, cond, _&&_}
-use mathlib.Core.List.{List, [], _∷_, _++_, map}
-use lib.Dec.{eqb}
+use Prim.Native.Nat.{ℕ, _+_}
+use mathlib.Core.Bool.{true, false, cond}
+use mathlib.Core.List.{List, map}
 use lib.ListN.{length, take, drop, replicate}
-use Rattle.refusal.specs.declared.Refusal.{Refusal}
-use Rattle.refusal.specs.declared.Reading.{Reading}
 use Rattle.text.specs.Kinds.{isWhite, isSolid}
-use Rattle.text.specs.Tests.{every}
 use Rattle.text.specs.Scan.{runOf}
-use Rattle.text.specs.Digits.{isHex, numberAfter}
 use Rattle.dictionary.specs.Dictionary.{packed}
 use Rattle.reply.specs.declared.tokens.Word.{Word}
 use Rattle.reply.specs.declared.tokens.Six.{Six}
@@ -36,13 +31,3 @@ wordOf t = cond (isWord t) (Word.Packed (packedToken t)) Word.Other
 -- the tokens packed, if they are six words; zeros else
 abbrev pub sixOf : List (List ℕ) → Six
 sixOf ts = cond (sixWords ts) (record { are = true; words = map packedToken ts }) (record { are = false; words = replicate 6 0 })
-
--- what is read as hex where n digits that make v came before the digits s
-unfoldable pub hexAfter : ℕ → ℕ → List ℕ → Reading
-hexAfter n v s =
-    cond (eqb (n + length s) 16 && every isHex s) (Reading.Password (numberAfter 16 v s)) (Reading.Refused Refusal.ReplyUnread)
-
--- words with a space after each
-unfoldable pub ended : List (List ℕ) → List ℕ
-ended [] = []
-ended (w ∷ ws) = (w ++ 32 ∷ []) ++ ended ws

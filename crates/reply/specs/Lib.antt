@@ -1,8 +1,4 @@
--- The definitions that the promises of `reply` cite, and its laws.
-pub mod Writing
+-- The definitions that the promise of `reply` cites, and its laws.
 pub mod Reading
 pub mod Inside
-pub mod WordLaws
 pub mod Laws
-pub mod Examples
-pub mod Refusals

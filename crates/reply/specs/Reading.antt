@@ -13,7 +13,7 @@ use Rattle.sixwords.specs.Places.{numberOf as placesNumber}
 use Rattle.text.specs.Kinds.{isLetter, upperOf}
 use Rattle.text.specs.Tests.{every}
 use Rattle.text.specs.Scan.{tokens, unspaced}
-use Rattle.text.specs.Digits.{isHex, numberOf}
+use Rattle.hex.specs.Hex.{hexReading}
 
 -- "one to four ASCII letters"
 unfoldable pub isWord : List ℕ → Bool
@@ -42,14 +42,6 @@ foundAfter k known (Found.Nothing ∷ found) = Reading.Refused (Refusal.WordUnkn
 -- "it is read as words"
 abbrev pub wordsReading : List (List ℕ) → Reading
 wordsReading ws = foundAfter 1 [] (map placeOf ws)
-
--- "exactly sixteen hex digits of either case"
-unfoldable pub sixteenDigits : List ℕ → Bool
-sixteenDigits s = eqb (length s) 16 && every isHex s
-
--- "it is read as hex"; 33: "neither six words nor sixteen digits"
-unfoldable pub hexReading : List ℕ → Reading
-hexReading s = cond (sixteenDigits s) (Reading.Password (numberOf 16 s)) (Reading.Refused Refusal.ReplyUnread)
 
 -- 30: "reply over 128 bytes"; then words, and otherwise hex
 unfoldable pub readingOf : List ℕ → Reading

@@ -1,22 +1,17 @@
--- What the code makes of six places, and of a number, is what the definitions say.
-use Prim.Native.Nat.{ℕ, _+_, _*_, _/_, _%_, _^_, _<_}
+-- What the code makes of a number, and of six places, is what the definitions say.
+use Prim.Native.Nat.{ℕ, _+_, _*_, _/_, _%_, _^_, _≤_, _<_}
 use native.Mathlib.Omega.{arith}
-use mathlib.Core.Path.{_≡_}
-use mathlib.Core.Bool.{true, false, _&&_, and-assoc, and-true}
+use native.Mathlib.Nat.{pow-suc, pow-le-pow-right, lt-of-lt-of-le}
+use native.Mathlib.Numerals.{add-one}
+use mathlib.Core.Path.{_≡_, _∙_, ap}
+use mathlib.Core.Bool.{true}
 use mathlib.Core.List.{List, [], _∷_}
-use lib.Dec.{ltb}
-use lib.ListN.{getD}
-use borrow.Author.Tests.{eq-eqb, ne-eqb}
+use lib.Arith.{digits-lt}
+use lib.ListN.{length, getD, drop, drop-of-length-le}
+use lib.Seq.{drop-cons}
+use borrow.Author.Tests.{eq-eqb, ne-eqb, lt-ltb, le-ltb}
 use Rattle.sixwords.specs.declared.Number.{Number}
 use Rattle.sixwords.specs.Places.{pairSum, whole, cut, placesOf, joined, allPlaces, numberOf}
-use Rattle.sixwords.specs.Laws.{Six, six}
-
-pub all-six : (s : List ℕ) → Six s →
-    ltb (getD s 0 0) 2048 && ltb (getD s 1 0) 2048 && ltb (getD s 2 0) 2048 && ltb (getD s 3 0) 2048 && ltb (getD s 4 0) 2048 &&
-    ltb (getD s 5 0) 2048 ≡
-    allPlaces s
-unfolding allPlaces
-all-six s (six a b c d e f) = simp (and-assoc, and-true)
 
 -- a cut below the sum's two bits
 cut-under : (p c : ℕ) → c < 4 →
@@ -46,32 +41,50 @@ places-spelt p c h e =
     let u = cut-under p c small in
     rw (← e, u .0, u .1, u .2, u .3, u .4, u .5, first-whole p h)
 
--- the first three places, the last three, and the number, as the code has them
-abbrev first : List ℕ → ℕ
-first s = (getD s 0 0 * 2048 + getD s 1 0) * 2048 + getD s 2 0
+-- ---- six places joined one after the other
 
-abbrev rest : List ℕ → ℕ
-rest s = (getD s 3 0 * 2048 + getD s 4 0) * 2048 + getD s 5 0
+-- k places, each below 2,048, are joined in v, and those from k on are left
+abbrev pub Joined : List ℕ → ℕ → ℕ → Type 0
+Joined s v k = (v < 2048 ^ k) × (joined 0 s ≡ joined v (drop k s)) × (allPlaces s ≡ allPlaces (drop k s))
 
-abbrev number : List ℕ → ℕ
-number s = first s * 2147483648 + rest s / 4
+pub five-fit : (v k : ℕ) → v < 2048 ^ k → k ≤ 5 → v < 2 ^ 55
+five-fit v k h g = lt-of-lt-of-le h (pow-le-pow-right {n = 2048} (omega arith) g)
 
-joined-number : (s : List ℕ) → Six s → joined 0 s / 4 ≡ number s
-unfolding joined
-joined-number s (six a b c d e f) = omega arith
+module _ (s : List ℕ) (v k : ℕ) (h : k < length s) (j : Joined s v k) where
+  -- one place more
+  pub place-joined : getD s k 0 ≤ 2047 → Joined s (v * 2048 + getD s k 0) (k + 1)
+  unfolding joined allPlaces
+  place-joined g = (
+    rw (add-one, pow-suc) (digits-lt (j .0) (omega arith)),
+    j .1 ∙ rw (drop-cons s k 0 h, add-one),
+    j .2 ∙ rw (drop-cons s k 0 h, lt-ltb (getD s k 0) 2048 (omega arith), add-one),
+  )
 
-joined-sum : (s : List ℕ) → Six s → joined 0 s % 4 ≡ rest s % 4
-unfolding joined
-joined-sum s (six a b c d e f) = omega arith
+  -- a place that is none
+  pub place-wrong : 2047 < getD s k 0 → Number.SumWrong ≡ numberOf s
+  unfolding numberOf allPlaces
+  place-wrong g = rw (j .2, drop-cons s k 0 h, le-ltb (getD s k 0) 2048 g)
 
-pub number-is : (s : List ℕ) → Six s → allPlaces s ≡ true → pairSum (number s) % 4 ≡ rest s % 4 → Number.Is (number s) ≡ numberOf s
-unfolding numberOf
-number-is s l t h = rw (t, joined-number s l, joined-sum s l, eq-eqb (pairSum (number s) % 4) (rest s % 4) h)
+-- all six, the number and the sum's two bits in front of the definition's
+module _ (s : List ℕ) (v : ℕ) (n : length s ≡ 6) (j : Joined s v 5) (g : getD s 5 0 ≤ 2047) where
+  all : Joined s (v * 2048 + getD s 5 0) 6
+  all = place-joined s v 5 (omega arith) j g
 
-pub sum-wrong : (s : List ℕ) → Six s → allPlaces s ≡ true → (pairSum (number s) % 4 ≡ rest s % 4 → ⊥) → Number.SumWrong ≡ numberOf s
-unfolding numberOf
-sum-wrong s l t h = rw (t, joined-number s l, joined-sum s l, ne-eqb (pairSum (number s) % 4) (rest s % 4) h)
+  number : joined 0 s ≡ v * 2048 + getD s 5 0
+  unfolding joined
+  number = all .1 ∙ ap (joined (v * 2048 + getD s 5 0)) (drop-of-length-le s {i = 6} (omega arith))
 
-pub place-wrong : (s : List ℕ) → allPlaces s ≡ false → Number.SumWrong ≡ numberOf s
-unfolding numberOf
-place-wrong s t = rw t
+  places : allPlaces s ≡ true
+  unfolding allPlaces
+  places = all .2 ∙ ap allPlaces (drop-of-length-le s {i = 6} (omega arith))
+
+  cut-off : (joined 0 s / 4 ≡ v * 512 + getD s 5 0 / 4) × (joined 0 s % 4 ≡ getD s 5 0 % 4)
+  cut-off = (omega (arith, number), omega (arith, number))
+
+  pub number-is : pairSum (v * 512 + getD s 5 0 / 4) % 4 ≡ getD s 5 0 % 4 → Number.Is (v * 512 + getD s 5 0 / 4) ≡ numberOf s
+  unfolding numberOf
+  number-is e = rw (places, cut-off .0, cut-off .1, eq-eqb (pairSum (v * 512 + getD s 5 0 / 4) % 4) (getD s 5 0 % 4) e)
+
+  pub sum-wrong : (pairSum (v * 512 + getD s 5 0 / 4) % 4 ≡ getD s 5 0 % 4 → ⊥) → Number.SumWrong ≡ numberOf s
+  unfolding numberOf
+  sum-wrong e = rw (places, cut-off .0, cut-off .1, ne-eqb (pairSum (v * 512 + getD s 5 0 / 4) % 4) (getD s 5 0 % 4) e)

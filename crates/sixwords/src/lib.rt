@@ -1,6 +1,6 @@
 // A 64-bit number as six places of the dictionary, and back: document 01, 'Six words and hex'.
 ghost use mathlib.Core.Path.{_≡_};
-ghost use Rattle.sixwords.specs.Places.{pairSum, placesOf, allPlaces, numberOf};
+ghost use Rattle.sixwords.specs.Places.{pairSum, placesOf, numberOf};
 
 // The number that six places stand for, or that the pair sum after it is wrong.
 pub enum Number {
@@ -27,24 +27,26 @@ pub fn places_of(p: u64) -> [usize; 6]
 pub fn number_of(places: [usize; 6]) -> Number
     ensures { λ r. ⌜ r ≡ numberOf places ⌝ }
 {
-    if !all_places(places) {
+    let mut first: u64 = 0;
+    let mut k = 0;
+    while k < 5 {
+        let place = places[k];
+        if 2047 < place {
+            return Number::SumWrong;
+        }
+        first = first * 2048 + place as u64;
+        k += 1;
+    }
+    let last = places[5];
+    if 2047 < last {
         return Number::SumWrong;
     }
-    let first = (places[0] * 2048 + places[1]) * 2048 + places[2];
-    let rest = (places[3] * 2048 + places[4]) * 2048 + places[5];
-    let p = (first * 2147483648 + rest / 4) as u64;
-    if pair_sum(p) % 4 == (rest % 4) as u64 {
+    let p = first * 512 + (last / 4) as u64;
+    if pair_sum(p) % 4 == (last % 4) as u64 {
         Number::Is(p)
     } else {
         Number::SumWrong
     }
-}
-
-// Each of the six is below 2,048.
-fn all_places(s: [usize; 6]) -> bool
-    ensures { λ r. ⌜ r ≡ allPlaces s ⌝ }
-{
-    (s[0] < 2048) & (s[1] < 2048) & (s[2] < 2048) & (s[3] < 2048) & (s[4] < 2048) & (s[5] < 2048)
 }
 
 // The 32 pairs of bits of a number, added.

@@ -17,11 +17,11 @@ fn show(written: Written, buf: &[u8]) {
 
 fn both_texts(p: u64) {
     let mut hex = [0u8; 16];
-    let written = reply::write_hex(p, &mut hex);
+    let written = hex::write_hex(p, &mut hex);
     show(written, &hex);
     io::write_all(STDOUT_FILENO, b"\t");
     let mut words = [0u8; 29];
-    let written = reply::write_words(p, &mut words);
+    let written = spelling::write_words(p, &mut words);
     show(written, &words);
 }
 

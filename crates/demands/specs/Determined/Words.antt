@@ -1,4 +1,4 @@
--- The promises of `rows`, `lookup`, `sixwords` and `reply` determine their results.
+-- The promises of `rows`, `lookup`, `sixwords`, `hex`, `spelling` and `reply` determine their results.
 use mathlib.Core.Path.{sym, _∙_}
 use denote.Ref.{now}
 use Rattle.rows.proofs.row.Reads as row
@@ -6,10 +6,11 @@ use Rattle.lookup.proofs.word_at.Reads as word-at
 use Rattle.lookup.proofs.place_of.Reads as place-of
 use Rattle.sixwords.proofs.places_of.Reads as places-of
 use Rattle.sixwords.proofs.number_of.Reads as number-of
+use Rattle.hex.proofs.read_hex.Reads as read-hex
+use Rattle.hex.proofs.write_hex.Reads as write-hex
+use Rattle.spelling.proofs.words_length.Reads as words-length
+use Rattle.spelling.proofs.write_words.Reads as write-words
 use Rattle.reply.proofs.read.Reads as read
-use Rattle.reply.proofs.write_hex.Reads as write-hex
-use Rattle.reply.proofs.words_length.Reads as words-length
-use Rattle.reply.proofs.write_words.Reads as write-words
 use Rattle.demands.specs.Determined.{Answers, AnswersAndLent, left}
 
 pub row-determined : Answers row.Learnt
@@ -27,8 +28,8 @@ places-of-determined k a y z e f p q = p ∙ sym q
 pub number-of-determined : Answers number-of.Learnt
 number-of-determined k a y z e f p q = p ∙ sym q
 
-pub read-determined : Answers read.Learnt
-read-determined k a y z e f p q = p ∙ sym q
+pub read-hex-determined : Answers read-hex.Learnt
+read-hex-determined k a y z e f p q = p ∙ sym q
 
 pub write-hex-determined : AnswersAndLent write-hex.Learnt (λ k e. now (e .1 .0))
 write-hex-determined k a y z e f p q = left _ _ p q
@@ -38,3 +39,6 @@ words-length-determined k a y z e f p q = p .0 ∙ sym (q .0)
 
 pub write-words-determined : AnswersAndLent write-words.Learnt (λ k e. now (e .1 .0))
 write-words-determined k a y z e f p q = left _ _ p q
+
+pub read-determined : Answers read.Learnt
+read-determined k a y z e f p q = p ∙ sym q

@@ -1,5 +1,5 @@
 -- `upper_rows` meets its promise: either half of the rows is a span.
-use Prim.Native.Nat.{ℕ, _+_, _*_}
+use Prim.Native.Nat.{_+_, _*_}
 use native.Mathlib.Omega.{arith}
 use borrow.Author.Needs.{needs}
 use Rattle.lookup.proofs.Spans.{upper, lower}

@@ -6,8 +6,8 @@ use native.Mathlib.Omega.{arith}
 use lib.ListN.{length}
 use Rattle.text.specs.Front.{Put}
 use Rattle.text.specs.FrontLaws.{then-put, length-rest-lent}
-use Rattle.reply.specs.Writing.{hexOf}
-use Rattle.reply.specs.Laws.{hex-length}
+use Rattle.hex.specs.Hex.{hexOf}
+use Rattle.hex.specs.Laws.{hex-length}
 use Rattle.cards.proofs.Wrote.{wrote-put, has-room}
 use Rattle.cards.proofs.lines.put_hex_space.Statement.{statement}
 use Rattle.cards.proofs.lines.put_hex_space.Tie as tie

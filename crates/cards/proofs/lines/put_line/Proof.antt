@@ -7,8 +7,9 @@ use native.Mathlib.Omega.{arith}
 use lib.ListN.{length, length-append}
 use borrow.Rule.Slice.PartMut.{putMid, same-len-mid}
 use Rattle.text.specs.FrontLaws.{then-put, length-rest-lent}
-use Rattle.reply.specs.Writing.{hexOf, wordsOf}
-use Rattle.reply.specs.Laws.{hex-length}
+use Rattle.hex.specs.Hex.{hexOf}
+use Rattle.spelling.specs.Spelling.{wordsOf}
+use Rattle.hex.specs.Laws.{hex-length}
 use Rattle.challenge.specs.Counts.{widthOf, decimalOf}
 use Rattle.challenge.specs.Laws.{length-decimal}
 use Rattle.cards.specs.Cards.{lineOf}

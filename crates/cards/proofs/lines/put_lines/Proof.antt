@@ -8,7 +8,7 @@ use lib.ListN.{length, getD}
 use borrow.Rule.Slice.PartMut.{same-len-mid}
 use Rattle.text.specs.Front.{Put}
 use Rattle.text.specs.FrontLaws.{then-put, length-rest-lent}
-use Rattle.reply.specs.Writing.{wordsOf}
+use Rattle.spelling.specs.Spelling.{wordsOf}
 use Rattle.challenge.specs.Counts.{widthOf}
 use Rattle.cards.specs.Cards.{lineOf, cardText}
 use Rattle.cards.specs.Inside.{at as passwordAt}

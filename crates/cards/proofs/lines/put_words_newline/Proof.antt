@@ -6,7 +6,7 @@ use native.Mathlib.Omega.{arith}
 use lib.ListN.{length}
 use Rattle.text.specs.Front.{Put}
 use Rattle.text.specs.FrontLaws.{then-put, length-rest-lent}
-use Rattle.reply.specs.Writing.{wordsOf}
+use Rattle.spelling.specs.Spelling.{wordsOf}
 use Rattle.cards.proofs.Wrote.{wrote-put, has-room}
 use Rattle.cards.proofs.lines.put_words_newline.Statement.{statement}
 use Rattle.cards.proofs.lines.put_words_newline.Tie as tie

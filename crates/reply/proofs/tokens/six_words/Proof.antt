@@ -1,9 +1,8 @@
 -- `six_words` meets its promise. The loop's invariant: `k` tokens up to `at` are words, and stand packed in `words`.
 use borrow.Author.Needs.{needs}
-use mathlib.Core.Path.{_≡_, refl}
-use Prim.Native.Nat.{ℕ, _≤_, _-_}
+use Prim.Native.Nat.{_≤_, _-_}
 use native.Mathlib.Omega.{arith}
-use lib.ListN.{length, length-drop, drop}
+use lib.ListN.{length-drop}
 use Rattle.reply.proofs.Scanned.{Scanned, scanned-none, white-within, token-within, turned, stopped, six-are, seventh, none-six, all-six}
 use Rattle.reply.proofs.tokens.six_words.Statement.{statement}
 use Rattle.reply.proofs.tokens.six_words.Tie as tie

@@ -2,11 +2,10 @@
 use borrow.Author.Needs.{needs}
 use mathlib.Core.Path.{_≡_, refl, sym, _∙_, ap}
 use mathlib.Core.List.{[], map}
-use Prim.Native.Nat.{ℕ, _≤_, _-_, _+_}
+use Prim.Native.Nat.{_≤_, _-_, _+_}
 use native.Mathlib.Omega.{arith}
 use lib.ListN.{length, take, drop, length-set}
 use Rattle.dictionary.specs.Dictionary.{foundOf}
-use Rattle.sixwords.specs.declared.Number.{Number}
 use Rattle.reply.specs.Reading.{summed, foundAfter}
 use Rattle.reply.proofs.Looked.{word-unknown, word-known, words-known}
 use Rattle.reply.proofs.words.read_words.Statement.{statement}

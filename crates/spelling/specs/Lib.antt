@@ -1,0 +1,5 @@
+-- The definitions that the promises of `spelling` cite, and its laws.
+pub mod Spelling
+pub mod Inside
+pub mod Laws
+pub mod Determined
