@@ -2,4 +2,3 @@
 pub mod Hex
 pub mod Laws
 pub mod Inside
-pub mod Determined

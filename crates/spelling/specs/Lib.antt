@@ -2,4 +2,3 @@
 pub mod Spelling
 pub mod Inside
 pub mod Laws
-pub mod Determined
