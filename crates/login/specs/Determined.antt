@@ -6,12 +6,12 @@ use lib.ListN.{length}
 use Rattle.refusal.specs.declared.Checked.{Checked}
 use Rattle.refusal.specs.declared.Written.{Written}
 use Rattle.text.specs.Front.{leaves}
-use Rattle.login.specs.declared.table.Table.{Table}
-use Rattle.login.specs.declared.table.Replied.{Replied}
-use Rattle.login.specs.declared.table.Settled.{Settled}
-use Rattle.login.specs.declared.table.Answered.{Answered}
-use Rattle.login.specs.Table.{State, view}
-use Rattle.login.specs.Steps.{After, settled, answered, challenge, challengeFor}
+use Rattle.controller.specs.declared.Table.{Table}
+use Rattle.controller.specs.declared.Replied.{Replied}
+use Rattle.controller.specs.declared.Settled.{Settled}
+use Rattle.controller.specs.declared.Answered.{Answered}
+use Rattle.controller.specs.Table.{State, view}
+use Rattle.controller.specs.Steps.{After, settled, answered, challenge, challengeFor}
 
 -- Enrol, Remove, Join and Leave: each promises one such equation.
 pub settled-determined : (step : After Checked) (r q : Settled) → settled r ≡ step → settled q ≡ step → settled r ≡ settled q
