@@ -24,10 +24,12 @@ use Rattle.hex.specs.Hex.{hexOf}
 use Rattle.spelling.specs.Spelling.{wordsOf}
 use Rattle.reply.specs.Reading.{readingOf}
 use Rattle.readback.specs.Replies.{hex-written-read, words-written-read}
-use Rattle.login.specs.declared.table.Replied.{Replied}
-use Rattle.login.specs.Table.{Room, State, accountOf, turnId}
-use Rattle.login.specs.Steps as Steps
-use Rattle.login.specs.Steps.{turnChecked, lowered, challengeFor, challenge}
+use Rattle.controller.specs.declared.Replied.{Replied}
+use Rattle.rooms.specs.Rooms.{Room}
+use Rattle.controller.specs.Table.{State, accountOf, turnId}
+use Rattle.controller.specs.Steps as Steps
+use Rattle.accounts.specs.Accounts.{lowered}
+use Rattle.controller.specs.Steps.{turnChecked, challengeFor, challenge}
 use Rattle.demands.specs.Turns.{HasTurn}
 use Rattle.demands.specs.Outcome.{turn-good, turn-holder}
 use Rattle.demands.specs.Day.{Accepts, Day}

@@ -11,9 +11,10 @@ use Rattle.challenge.specs.declared.reading.Challenge.{Challenge}
 use Rattle.challenge.specs.Challenges.{challengeOf, seedOf}
 use Rattle.hex.specs.Hex.{hexOf}
 use Rattle.spelling.specs.Spelling.{wordsOf}
-use Rattle.login.specs.declared.table.Replied.{Replied}
-use Rattle.login.specs.Table.{Room, State, accountOf}
-use Rattle.login.specs.Steps.{challengeFor, challenge, reply}
+use Rattle.controller.specs.declared.Replied.{Replied}
+use Rattle.rooms.specs.Rooms.{Room}
+use Rattle.controller.specs.Table.{State, accountOf}
+use Rattle.controller.specs.Steps.{challengeFor, challenge, reply}
 
 -- The account after an accepted reply, beside the one before: the same id and seed, the count lower by 1, and the password whose
 -- hash is the one that was stored.

@@ -11,7 +11,7 @@ use Rattle.password.specs.Password.{Algorithm, generated}
 use Rattle.challenge.specs.Challenges.{challengeOf, challengeWritten}
 use Rattle.cards.specs.Cards.{cardWritten}
 use Rattle.reply.specs.Reading.{readingOf}
-use Rattle.login.specs.Table.{State}
+use Rattle.controller.specs.Table.{State}
 use Rattle.tables.specs.Calls.{Call, Answer, answer, after}
 use Rattle.demands.specs.Turns.{Reached}
 use Rattle.demands.specs.Listed.{isIn, listed, refusalsOf, Within, ReadWithin, ChallengeWithin, WriteWithin, Given}

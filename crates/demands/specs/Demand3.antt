@@ -8,9 +8,10 @@ use Rattle.refusal.specs.declared.Checked.{Checked}
 use Rattle.text.specs.Tests.{every}
 use Rattle.inputs.specs.Checks.{phraseChecked}
 use Rattle.password.specs.Password.{Algorithm, password}
-use Rattle.login.specs.Table.{Room, State, accountOf, turnId}
+use Rattle.rooms.specs.Rooms.{Room}
+use Rattle.controller.specs.Table.{State, accountOf, turnId}
 use Rattle.challenge.specs.Challenges.{challengeText}
-use Rattle.login.specs.Steps.{join, challengeFor}
+use Rattle.controller.specs.Steps.{join, challengeFor}
 use Rattle.tables.specs.Calls.{Call, after, run}
 use Rattle.demands.specs.Turns.{Reached, ticks, quiet, quietMeanwhile, HasTurn, TurnBegins}
 use Rattle.demands.specs.Day.{Day}

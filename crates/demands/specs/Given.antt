@@ -26,8 +26,8 @@ use Rattle.hex.specs.Hex.{sixteenDigits, hexReading}
 use Rattle.reply.specs.Reading.{isWord, sixWords, foundAfter, readingOf}
 use Rattle.cards.specs.Cards.{cardChecked, cardWritten}
 use Rattle.line.specs.Line.{some, joined, others, turnWithout, without}
-use Rattle.login.specs.Table.{placeOf}
-use Rattle.login.specs.Steps.{enrolChecked, enrol, remove, joinChecked, join, leaveChecked, leave, turnChecked, challenge, offered, replyRead, reply, renewChecked, renewRead, renew}
+use Rattle.rooms.specs.Rooms.{placeOf}
+use Rattle.controller.specs.Steps.{enrolChecked, enrol, remove, joinChecked, join, leaveChecked, leave, turnChecked, challenge, offered, replyRead, reply, renewChecked, renewRead, renew}
 use Rattle.tables.specs.Calls.{Call, run}
 use Rattle.demands.specs.Listed.{listed, callNumber, Given}
 use Rattle.demands.specs.Each.{Each, each-append}

@@ -2,8 +2,8 @@
 use mathlib.Core.Path.{_≡_}
 use mathlib.Core.List.{List, [], _∷_}
 use Rattle.refusal.specs.declared.Checked.{Checked}
-use Rattle.login.specs.Checks.{inOrder}
-use Rattle.login.specs.Passed.{both-passed}
+use Rattle.accounts.specs.Accounts.{inOrder}
+use Rattle.controller.specs.Passed.{both-passed}
 use Rattle.demands.specs.Each.{Each}
 
 -- "Checks run in the order given": where all is good, each check found nothing wrong.

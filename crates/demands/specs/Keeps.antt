@@ -13,8 +13,9 @@ use Rattle.line.specs.declared.Place.{Place}
 use Rattle.line.specs.Line as Line
 use Rattle.line.specs.Line.{Waiting, ofPort, ofAccount, first, others, without, tickedFront}
 use Rattle.port.specs.declared.Port.{Port}
-use Rattle.login.specs.Table.{Room, State, free, freshPort, fresh, placeOf, isThere, accountOf, portOf, turnId, withRoom, withPort}
-use Rattle.login.specs.Steps as Steps
+use Rattle.rooms.specs.Rooms.{Room, free, placeOf}
+use Rattle.controller.specs.Table.{State, freshPort, fresh, isThere, accountOf, portOf, turnId, withRoom, withPort}
+use Rattle.controller.specs.Steps as Steps
 use Rattle.port.specs.Port.{wrongly, rightly, cooled}
 use Rattle.tables.specs.Calls.{Call, after, run}
 use Rattle.demands.specs.Turns.{Reached}

@@ -15,7 +15,7 @@ use Rattle.challenge.specs.Challenges.{challengeOf}
 use Rattle.reply.specs.Reading.{readingOf}
 use Rattle.hex.specs.Hex.{hexOf}
 use Rattle.cards.specs.Cards.{cardWritten}
-use Rattle.login.specs.Table.{fresh}
+use Rattle.controller.specs.Table.{fresh}
 use Rattle.tables.specs.Calls.{Call, Answer, writtenAnswer, answer, numbers, run}
 
 -- One of the numbers is n.

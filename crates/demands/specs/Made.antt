@@ -9,7 +9,8 @@ use Rattle.text.specs.Tests.{every}
 use Rattle.line.specs.declared.Place.{Place}
 use Rattle.line.specs.Line.{Waiting, ofPort, some}
 use Rattle.port.specs.declared.Port.{Port}
-use Rattle.login.specs.Table.{Room, State, isThere, portOf}
+use Rattle.rooms.specs.Rooms.{Room}
+use Rattle.controller.specs.Table.{State, isThere, portOf}
 use Rattle.demands.specs.Each.{Each}
 
 -- ---- the line

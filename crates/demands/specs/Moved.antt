@@ -6,8 +6,8 @@ use borrow.Author.Tests.{eqb-false, ne-eqb}
 use Rattle.line.specs.declared.Place.{Place}
 use Rattle.line.specs.Line as Line
 use Rattle.line.specs.Line.{Waiting, ofPort, ofAccount, standsIn, without}
-use Rattle.login.specs.Table.{State}
-use Rattle.login.specs.Steps as Steps
+use Rattle.controller.specs.Table.{State}
+use Rattle.controller.specs.Steps as Steps
 use Rattle.tables.specs.Calls.{Call}
 use Rattle.demands.specs.Turns.{tickOf, quiet}
 use Rattle.demands.specs.Outcome as Outcome

@@ -2,9 +2,9 @@
 use Prim.Native.Nat.{ℕ}
 use mathlib.Core.Path.{_≡_}
 use mathlib.Core.List.{List}
-use Rattle.login.specs.declared.table.Replied.{Replied}
-use Rattle.login.specs.Table.{State, accountOf, turnId}
-use Rattle.login.specs.Steps.{reply}
+use Rattle.controller.specs.declared.Replied.{Replied}
+use Rattle.controller.specs.Table.{State, accountOf, turnId}
+use Rattle.controller.specs.Steps.{reply}
 use Rattle.demands.specs.Day.{SteppedDown}
 use Rattle.demands.specs.Replies.{reply-taken, taken-steps-down}
 

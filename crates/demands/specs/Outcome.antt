@@ -18,10 +18,12 @@ use Rattle.password.specs.Password.{Algorithm, hash, bytesOf}
 use Rattle.reply.specs.Reading.{readingOf}
 use Rattle.line.specs.Line as Line
 use Rattle.line.specs.Line.{standsIn}
-use Rattle.login.specs.Table.{Room, State, free, placeOf, isThere, accountOf, portOf, hasTurn, turnId, withRoom, withLine}
-use Rattle.login.specs.Checks.{idGiven, countWithin, idNew, roomLeft, accountThere, portKnown, notInLine, portOpen, notUsedUp, inLine, inFront, seedNew}
-use Rattle.login.specs.Steps as Steps
-use Rattle.login.specs.Steps.{refused, replyRefused, done, newRoom, enrolChecked, joinChecked, leaveChecked, turnChecked, renewChecked, lowered, offered, read}
+use Rattle.rooms.specs.Rooms.{Room, free, placeOf}
+use Rattle.controller.specs.Table.{State, isThere, accountOf, portOf, hasTurn, turnId, withRoom, withLine}
+use Rattle.accounts.specs.Accounts.{countWithin, newRoom, lowered}
+use Rattle.controller.specs.Checks.{idGiven, idNew, roomLeft, accountThere, portKnown, notInLine, portOpen, notUsedUp, inLine, inFront, seedNew}
+use Rattle.controller.specs.Steps as Steps
+use Rattle.controller.specs.Steps.{refused, replyRefused, done, enrolChecked, joinChecked, leaveChecked, turnChecked, renewChecked, offered, read}
 use Rattle.tables.specs.Calls.{Call, after}
 use Rattle.demands.specs.Turns.{tickOf, quiet}
 use Rattle.demands.specs.Each.{Each}

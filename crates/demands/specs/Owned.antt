@@ -11,8 +11,9 @@ use Rattle.text.specs.Tests.{every, either, both}
 use Rattle.line.specs.declared.Place.{Place}
 use Rattle.line.specs.Line as Line
 use Rattle.line.specs.Line.{Waiting, ofPort, ofAccount, some, standsIn, first, others, without, tickedFront}
-use Rattle.login.specs.Table.{State, free, isThere, accountOf, hasTurn, turnId}
-use Rattle.login.specs.Steps as Steps
+use Rattle.rooms.specs.Rooms.{free}
+use Rattle.controller.specs.Table.{State, isThere, accountOf, hasTurn, turnId}
+use Rattle.controller.specs.Steps as Steps
 use Rattle.tables.specs.Calls.{Call, after, run}
 use Rattle.demands.specs.Turns.{quiet, HasTurn}
 use Rattle.demands.specs.Each.{Each}

@@ -11,8 +11,8 @@ use Rattle.line.specs.declared.Place.{Place}
 use Rattle.line.specs.Line.{ofPort, ofAccount, some, joined}
 use Rattle.refusal.specs.declared.Checked.{Checked}
 use Rattle.refusal.specs.Checks.{unless}
-use Rattle.login.specs.Table.{State, fresh, hasTurn, turnId, withLine}
-use Rattle.login.specs.Steps.{refused, done, joinChecked, join}
+use Rattle.controller.specs.Table.{State, fresh, hasTurn, turnId, withLine}
+use Rattle.controller.specs.Steps.{refused, done, joinChecked, join}
 use Rattle.tables.specs.Calls.{Call, after, run}
 use Rattle.demands.specs.Turns.{Reached, tickOf, ticks, quiet, quietMeanwhile, HasTurn, TurnBegins}
 use Rattle.demands.specs.Outcome.{outcome, join-good}

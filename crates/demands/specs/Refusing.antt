@@ -32,11 +32,13 @@ use Rattle.hex.specs.Hex.{sixteenDigits, hexReading}
 use Rattle.reply.specs.Reading.{sixWords, upperText, summed, foundAfter, readingOf}
 use Rattle.cards.specs.Cards.{challengeChecked, countOf, linesChecked, cardChecked, cardOf, cardWritten}
 use Rattle.line.specs.Line.{standsIn}
-use Rattle.login.specs.declared.table.Replied.{Replied}
-use Rattle.login.specs.Table.{Room, State, holds, isThere, accountOf, portOf, hasTurn, turnId}
-use Rattle.login.specs.Checks.{inOrder, idGiven, countWithin, idNew, roomLeft, accountThere, portKnown, notInLine, portOpen, notUsedUp, inLine, inFront, seedNew}
-use Rattle.login.specs.Steps as Steps
-use Rattle.login.specs.Steps.{After, refused, replyRefused, done, enrolChecked, joinChecked, leaveChecked, turnChecked, renewChecked, lowered, newRoom, offered, read}
+use Rattle.controller.specs.declared.Replied.{Replied}
+use Rattle.rooms.specs.Rooms.{Room, holds}
+use Rattle.controller.specs.Table.{State, isThere, accountOf, portOf, hasTurn, turnId}
+use Rattle.accounts.specs.Accounts.{inOrder, countWithin, lowered, newRoom}
+use Rattle.controller.specs.Checks.{idGiven, idNew, roomLeft, accountThere, portKnown, notInLine, portOpen, notUsedUp, inLine, inFront, seedNew}
+use Rattle.controller.specs.Steps as Steps
+use Rattle.controller.specs.Steps.{After, refused, replyRefused, done, enrolChecked, joinChecked, leaveChecked, turnChecked, renewChecked, offered, read}
 use Rattle.tables.specs.Calls.{Call, checkedAnswer, repliedAnswer, writtenAnswer, answer}
 use Rattle.demands.specs.Turns.{HasTurn}
 use Rattle.demands.specs.Each.{Each}

@@ -14,10 +14,12 @@ use Rattle.md5.specs.Md5 as Md5
 use Rattle.password.specs.Password.{Algorithm, bytesOf, hash}
 use Rattle.reply.specs.Reading.{readingOf}
 use Rattle.line.specs.Line.{standsIn}
-use Rattle.login.specs.declared.table.Replied.{Replied}
-use Rattle.login.specs.Table.{Room, State, isThere, accountOf, hasTurn, turnId}
-use Rattle.login.specs.Steps as Steps
-use Rattle.login.specs.Steps.{replyRefused, turnChecked, lowered, offered, read, replyRead, reply}
+use Rattle.controller.specs.declared.Replied.{Replied}
+use Rattle.rooms.specs.Rooms.{Room}
+use Rattle.controller.specs.Table.{State, isThere, accountOf, hasTurn, turnId}
+use Rattle.controller.specs.Steps as Steps
+use Rattle.accounts.specs.Accounts.{lowered}
+use Rattle.controller.specs.Steps.{replyRefused, turnChecked, offered, read, replyRead, reply}
 use Rattle.demands.specs.Day.{SteppedDown}
 use Rattle.demands.specs.Rooms.{there-parts, same-changed}
 use Rattle.demands.specs.Outcome.{TurnGood, turn-good, turn-holder}

@@ -9,7 +9,7 @@ use lib.Dec.{eqb}
 use lib.ListN.{length, getD, set, length-set}
 use lib.Seq.{getD-set-same}
 use Rattle.text.specs.Tests.{both}
-use Rattle.login.specs.Table.{Room, free, placeOf, holds}
+use Rattle.rooms.specs.Rooms.{Room, free, placeOf, holds}
 use Rattle.demands.specs.Each.{Each}
 
 -- The account with an id that is there has that id.

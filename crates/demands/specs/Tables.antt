@@ -1,7 +1,7 @@
 -- What holds of tables that calls make.
 use Prim.Native.Nat.{_≤_}
 use lib.ListN.{length}
-use Rattle.login.specs.Table.{State}
+use Rattle.controller.specs.Table.{State}
 use Rattle.demands.specs.Turns.{Reached}
 use Rattle.demands.specs.Made.{Made}
 use Rattle.demands.specs.Few.{at-most-four}

@@ -13,8 +13,9 @@ use Rattle.text.specs.Tests.{every, every-at}
 use Rattle.block.specs.Lists.{upTo, length-upTo, getD-upTo}
 use Rattle.inputs.specs.Checks.{plain}
 use Rattle.line.specs.Line.{some, joined, others, turnWithout, without, ticked}
-use Rattle.login.specs.Table.{fresh, placeOf, hasTurn}
-use Rattle.login.specs.Steps.{enrolChecked, enrol, joinChecked, join, tick}
+use Rattle.rooms.specs.Rooms.{placeOf}
+use Rattle.controller.specs.Table.{fresh, hasTurn}
+use Rattle.controller.specs.Steps.{enrolChecked, enrol, joinChecked, join, tick}
 use Rattle.tables.specs.Calls.{Call, run}
 use Rattle.demands.specs.Turns.{tickOf, ticks, TurnBegins}
 

@@ -4,7 +4,7 @@ use mathlib.Core.Path.{_≡_}
 use mathlib.Core.Bool.{Bool, true, not, _&&_, _||_}
 use mathlib.Core.List.{List, [], _∷_, _++_}
 use lib.Dec.{eqb}
-use Rattle.login.specs.Table.{State, fresh, hasTurn, turnId}
+use Rattle.controller.specs.Table.{State, fresh, hasTurn, turnId}
 use Rattle.tables.specs.Calls.{Call, after, run}
 
 -- "From a fresh table, after any calls": the table s is one that calls make.

@@ -22,11 +22,13 @@ use Rattle.sixwords.specs.declared.Number.{Number}
 use Rattle.sixwords.specs.Places.{numberOf as placesNumber}
 use Rattle.hex.specs.Hex.{sixteenDigits, hexReading}
 use Rattle.reply.specs.Reading.{isWord, sixWords, upperText, summed, foundAfter, readingOf}
-use Rattle.login.specs.declared.table.Replied.{Replied}
-use Rattle.login.specs.Table.{Room, State, accountOf, portOf, turnId}
-use Rattle.login.specs.Checks.{accountThere}
-use Rattle.login.specs.Steps as Steps
-use Rattle.login.specs.Steps.{After, refused, replyRefused, done, enrolChecked, joinChecked, leaveChecked, turnChecked, renewChecked, lowered, newRoom, offered, read}
+use Rattle.controller.specs.declared.Replied.{Replied}
+use Rattle.rooms.specs.Rooms.{Room}
+use Rattle.controller.specs.Table.{State, accountOf, portOf, turnId}
+use Rattle.controller.specs.Checks.{accountThere}
+use Rattle.controller.specs.Steps as Steps
+use Rattle.accounts.specs.Accounts.{lowered, newRoom}
+use Rattle.controller.specs.Steps.{After, refused, replyRefused, done, enrolChecked, joinChecked, leaveChecked, turnChecked, renewChecked, offered, read}
 use Rattle.tables.specs.Calls.{Call, Answer, checkedAnswer, repliedAnswer, answer, after}
 use Rattle.demands.specs.Listed.{isIn}
 

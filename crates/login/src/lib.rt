@@ -1,10 +1,6 @@
-// The login table of one controller: accounts, ports, the line of those that wait, and the eight calls.
+// The login table of one controller by its outer names: the table, and its eight calls.
 
-// The table and what its calls answer.
+// The table, and what its calls answer.
 pub mod table;
-// The checks of the calls.
-mod checks;
-// What an account becomes.
-mod account;
-// The eight calls.
+// The eight calls on a table, which goes in by value and comes back beside the answer.
 pub mod calls;

@@ -6,9 +6,9 @@ use Rattle.refusal.specs.declared.Checked.{Checked}
 use Rattle.refusal.specs.declared.Written.{Written}
 use Rattle.refusal.specs.declared.Listing.{Listing}
 use Rattle.refusal.specs.Numbers.{listingOf}
-use Rattle.login.specs.declared.table.Replied.{Replied}
-use Rattle.login.specs.Table.{State}
-use Rattle.login.specs.Steps.{enrol, remove, join, leave, challenge, reply, renew, tick}
+use Rattle.controller.specs.declared.Replied.{Replied}
+use Rattle.controller.specs.Table.{State}
+use Rattle.controller.specs.Steps.{enrol, remove, join, leave, challenge, reply, renew, tick}
 
 -- A call with its arguments. Challenge is lent a buffer, of which only the room counts.
 pub data Call : Type 0 where

@@ -6,8 +6,9 @@ use mathlib.Core.List.{List, [], _∷_}
 use mathlib.Core.Option.{Option, none, some}
 use lib.Dec.{eqb}
 use lib.ListN.{length}
-use Rattle.login.specs.Table.{Room, State}
-use Rattle.login.specs.Steps.{After}
+use Rattle.rooms.specs.Rooms.{Room}
+use Rattle.controller.specs.Table.{State}
+use Rattle.controller.specs.Steps.{After}
 
 -- The account with that id, where there is one.
 unfoldable pub accountBy : ℕ → List Room → Option Room

@@ -23,12 +23,14 @@ use Rattle.reply.specs.Reading.{readingOf}
 use Rattle.line.specs.Line.{Waiting, standsIn, left}
 use Rattle.port.specs.declared.Port.{Port}
 use Rattle.port.specs.Port.{wrongAnswer}
-use Rattle.login.specs.declared.table.Replied.{Replied}
-use Rattle.login.specs.Table.{Room, State, free, placeOf, holds, isThere, accountOf, portOf, turnId, hasTurn}
-use Rattle.login.specs.Checks.{inOrder, idGiven, countWithin, portKnown, notInLine, portOpen, inLine, inFront}
-use Rattle.login.specs.Steps as steps
-use Rattle.login.specs.Steps.{After, enrolChecked, joinChecked, leaveChecked, turnChecked, renewChecked}
-use Rattle.login.specs.Passed.{enrol-passed, enrol-refused, enrol-done, remove-refused, remove-done, join-refused, join-done, leave-refused, leave-done, turn-passed, reply-refused, reply-done, renew-passed, renew-refused, renew-done, challenge-refused, challenge-done}
+use Rattle.controller.specs.declared.Replied.{Replied}
+use Rattle.rooms.specs.Rooms.{Room, free, placeOf, holds}
+use Rattle.controller.specs.Table.{State, isThere, accountOf, portOf, turnId, hasTurn}
+use Rattle.accounts.specs.Accounts.{inOrder, countWithin, newRoom, lowered}
+use Rattle.controller.specs.Checks.{idGiven, portKnown, notInLine, portOpen, inLine, inFront}
+use Rattle.controller.specs.Steps as steps
+use Rattle.controller.specs.Steps.{After, enrolChecked, joinChecked, leaveChecked, turnChecked, renewChecked}
+use Rattle.controller.specs.Passed.{enrol-passed, enrol-refused, enrol-done, remove-refused, remove-done, join-refused, join-done, leave-refused, leave-done, turn-passed, reply-refused, reply-done, renew-passed, renew-refused, renew-done, challenge-refused, challenge-done}
 use Rattle.tables.specs.Equal.{accountBy, SameAccounts, Equal, Alike, times, accountsIn, Housed}
 use Rattle.tables.specs.RoomLaws.{holds-times, placed-id, account-by, found-none, set-other, set-here, times-set, accounts-free, same-count}
 
@@ -277,7 +279,7 @@ module _ (P : List Port) (W : Waiting) (l m : List Room) (h : SameAccounts l m) 
       by : (k : Checked) → turnChecked port (table P W l) ≡ k → Alike (steps.reply port text (table P W l)) (steps.reply port text (table P W m))
       by Checked.Good e =
           rw (reply-done port (table P W l) text e, reply-done port (table P W m) text (sym (turn-check port) ∙ e))
-          (read-alike port text steps.lowered (turn-passed port (table P W l) e .there) (λ room password. refl))
+          (read-alike port text lowered (turn-passed port (table P W l) e .there) (λ room password. refl))
       by (Checked.Refused why) e =
           rw (reply-refused port (table P W l) text why e, reply-refused port (table P W m) text why (sym (turn-check port) ∙ e)) (alike (Replied.Refused why) P W l m h)
 
@@ -289,7 +291,7 @@ module _ (P : List Port) (W : Waiting) (l m : List Room) (h : SameAccounts l m) 
           → Alike (steps.renew port count seed new text (table P W l)) (steps.renew port count seed new text (table P W m))
       by Checked.Good e =
           rw (renew-done port count seed (table P W l) new text e, renew-done port count seed (table P W m) new text (sym (renew-check port count seed) ∙ e))
-          (read-alike port text (λ room password. steps.newRoom (room .id) count seed new) (turn-passed port (table P W l) (renew-passed port count seed (table P W l) e .turn) .there) (λ room password. refl))
+          (read-alike port text (λ room password. newRoom (room .id) count seed new) (turn-passed port (table P W l) (renew-passed port count seed (table P W l) e .turn) .there) (λ room password. refl))
       by (Checked.Refused why) e =
           rw (renew-refused port count seed (table P W l) new text why e, renew-refused port count seed (table P W m) new text why (sym (renew-check port count seed) ∙ e))
           (alike (Replied.Refused why) P W l m h)
@@ -331,7 +333,7 @@ module _ (P : List Port) (W : Waiting) (l m : List Room) (h : SameAccounts l m) 
             let b = before m f in
             rw (enrol-done id count seed (table P W l) password e, enrol-done id count seed (table P W m) password f)
             (alike Checked.Good P W _ _
-            (put-same (steps.newRoom id count seed password) (placeOf 0 l) (placeOf 0 m) (a .0) (b .0) (a .1) (b .1)
+            (put-same (newRoom id count seed password) (placeOf 0 l) (placeOf 0 m) (a .0) (b .0) (a .1) (b .1)
             (λ i g o w. g (sym w ∙ a .2)) (λ i g o w. g (sym w ∙ b .2))))
         by (Checked.Refused why) e =
             rw (

@@ -9,8 +9,9 @@ use Rattle.text.specs.Quoted.{codes}
 use Rattle.inputs.specs.Checks.{plain}
 use Rattle.password.specs.Password.{numberAfter}
 use Rattle.line.specs.Line.{Waiting, some, joined, others, turnWithout, without, ticked}
-use Rattle.login.specs.Table.{fresh, placeOf}
-use Rattle.login.specs.Steps.{enrolChecked, enrol, joinChecked, join, leaveChecked, leave, remove, tick}
+use Rattle.rooms.specs.Rooms.{placeOf}
+use Rattle.controller.specs.Table.{fresh}
+use Rattle.controller.specs.Steps.{enrolChecked, enrol, joinChecked, join, leaveChecked, leave, remove, tick}
 use Rattle.tables.specs.Calls.{Call, Answer, run, answers}
 
 -- Account 1 with the count 99; port 0 joins for it.

@@ -18,13 +18,15 @@ use Rattle.reply.specs.Reading.{readingOf}
 use Rattle.refusal.specs.Checks.{must}
 use Rattle.line.specs.Line.{Waiting}
 use Rattle.port.specs.declared.Port.{Port}
-use Rattle.login.specs.declared.table.Replied.{Replied}
-use Rattle.login.specs.Table.{Room, State, free, fresh, placeOf, holds, isThere, accountOf, turnId}
-use Rattle.login.specs.Checks.{roomLeft}
-use Rattle.login.specs.Steps as steps
-use Rattle.login.specs.Steps.{enrolChecked, joinChecked, leaveChecked, turnChecked, renewChecked}
+use Rattle.controller.specs.declared.Replied.{Replied}
+use Rattle.rooms.specs.Rooms.{Room, free, placeOf, holds}
+use Rattle.accounts.specs.Accounts.{newRoom, lowered}
+use Rattle.controller.specs.Table.{State, fresh, isThere, accountOf, turnId}
+use Rattle.controller.specs.Checks.{roomLeft}
+use Rattle.controller.specs.Steps as steps
+use Rattle.controller.specs.Steps.{enrolChecked, joinChecked, leaveChecked, turnChecked, renewChecked}
 use Rattle.tables.specs.Calls.{Call, Answer, after, answer, run, checkedAnswer, repliedAnswer, writtenAnswer}
-use Rattle.login.specs.Passed.{test-passed, enrol-passed, enrol-refused, enrol-done, remove-refused, remove-done, join-refused, join-done, leave-refused, leave-done, turn-passed, reply-refused, reply-done, renew-passed, renew-refused, renew-done}
+use Rattle.controller.specs.Passed.{test-passed, enrol-passed, enrol-refused, enrol-done, remove-refused, remove-done, join-refused, join-done, leave-refused, leave-done, turn-passed, reply-refused, reply-done, renew-passed, renew-refused, renew-done}
 use Rattle.tables.specs.Equal.{Equal, Alike, times, accountsIn, Housed}
 use Rattle.tables.specs.RoomLaws.{holds-times, placed-id, times-set, accounts-free}
 use Rattle.tables.specs.EqualLaws.{table, join-alike, leave-alike, challenge-same, tick-equal, reply-alike, renew-alike, remove-alike, enrol-alike}
@@ -90,7 +92,7 @@ housed-enrol id count seed password s h = by (enrolChecked id count seed s) refl
         ltb-false 0 (times id (s .rooms))
         (sym (holds-times id (s .rooms)) ∙ (sym (ap (λ (b : Bool). b && holds id (s .rooms)) (passed .given)) ∙ not-true (isThere id s) (passed .new))) in
         rw (enrol-done id count seed s password e)
-        (housed-set s (placeOf 0 (s .rooms)) (steps.newRoom id count seed password) (s .ports) (s .line) h at (λ j g. new absent j g (ℕ-discrete id j)))
+        (housed-set s (placeOf 0 (s .rooms)) (newRoom id count seed password) (s .ports) (s .line) h at (λ j g. new absent j g (ℕ-discrete id j)))
       where
         new : times id (s .rooms) ≤ 0 → (j : ℕ) → (j ≡ 0 → ⊥) → Dec (id ≡ j)
             → is id j + times j (s .rooms) ≤ 1 + is (getD (s .rooms) (placeOf 0 (s .rooms)) free .id) j
@@ -135,7 +137,7 @@ housed-reply port text s h = by (turnChecked port s) refl
     by Checked.Good e =
         let there = turn-passed port s e .there in
         rw (reply-done port s text e)
-        (housed-read port text (steps.lowered (accountOf (turnId s) s)) s h there (λ password. placed-id (turnId s) (s .rooms) (there-placed (turnId s) s there)))
+        (housed-read port text (lowered (accountOf (turnId s) s)) s h there (λ password. placed-id (turnId s) (s .rooms) (there-placed (turnId s) s there)))
     by (Checked.Refused why) e = rw (reply-refused port s text why e) h
 
 housed-renew : (port count : ℕ) (seed new text : List ℕ) (s : State) → Housed s → Housed (steps.renew port count seed new text s .state)
@@ -146,7 +148,7 @@ housed-renew port count seed new text s h = by (renewChecked port count seed s) 
     by Checked.Good e =
         let there = turn-passed port s (renew-passed port count seed s e .turn) .there in
         rw (renew-done port count seed s new text e)
-        (housed-read port text (λ password. steps.newRoom (accountOf (turnId s) s .id) count seed new) s h there (λ password. placed-id (turnId s) (s .rooms) (there-placed (turnId s) s there)))
+        (housed-read port text (λ password. newRoom (accountOf (turnId s) s .id) count seed new) s h there (λ password. placed-id (turnId s) (s .rooms) (there-placed (turnId s) s there)))
     by (Checked.Refused why) e = rw (renew-refused port count seed s new text why e) h
 
 -- Every call keeps 32 rooms and the accounts apart.

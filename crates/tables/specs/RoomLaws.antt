@@ -9,7 +9,8 @@ use native.Mathlib.Decide.{ℕ-discrete}
 use borrow.Author.Tests.{eq-eqb, ne-eqb, eqb-true, eqb-false, lt-ltb, le-ltb, ltb-true, ltb-false}
 use lib.Dec.{eqb, ltb, leb·suc-suc}
 use lib.ListN.{length, getD, set}
-use Rattle.login.specs.Table.{Room, State, free, placeOf, holds}
+use Rattle.rooms.specs.Rooms.{Room, free, placeOf, holds}
+use Rattle.controller.specs.Table.{State}
 use Rattle.tables.specs.Equal.{accountBy, SameAccounts, times, accountsIn}
 
 -- 1 where the two are the same number.

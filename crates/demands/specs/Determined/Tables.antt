@@ -1,4 +1,4 @@
--- The promises of `line`, `port` and `login` determine their results: a line and a table up to what their bytes mean.
+-- The promises of `line`, `port`, `rooms`, `accounts`, `controller`, `enrolling`, `waiting` and `turns` determine their results: lines, accounts and tables as far as their bytes mean something.
 use mathlib.Core.Path.{sym, _∙_}
 use denote.Ref.{now}
 use Rattle.line.proofs.fresh.Reads as line-fresh
@@ -15,20 +15,27 @@ use Rattle.port.proofs.after_tick.Reads as after-tick
 use Rattle.port.proofs.tick.Reads as port-tick
 use Rattle.port.proofs.right.Reads as right
 use Rattle.port.proofs.wrong.Reads as wrong
-use Rattle.login.proofs.table.find.Reads as find
-use Rattle.login.proofs.table.account_at.Reads as account-at
-use Rattle.login.proofs.table.fresh.Reads as login-fresh
-use Rattle.login.proofs.calls.tick.Reads as login-tick
-use Rattle.login.proofs.calls.enrol.Reads as enrol
-use Rattle.login.proofs.calls.remove.Reads as login-remove
-use Rattle.login.proofs.calls.join.Reads as login-join
-use Rattle.login.proofs.calls.leave.Reads as login-leave
-use Rattle.login.proofs.calls.reply.Reads as reply
-use Rattle.login.proofs.calls.renew.Reads as renew
-use Rattle.login.proofs.calls.challenge.Reads as challenge
+use Rattle.rooms.proofs.holds.Reads as holds
+use Rattle.rooms.proofs.account_of.Reads as account-of
+use Rattle.rooms.proofs.put.Reads as put
+use Rattle.accounts.proofs.values.propose.Reads as propose
+use Rattle.accounts.proofs.replies.write_challenge.Reads as write-challenge
+use Rattle.accounts.proofs.replies.lower.Reads as lower
+use Rattle.controller.proofs.fresh.Reads as controller-fresh
+use Rattle.enrolling.proofs.enrol.Reads as enrol
+use Rattle.enrolling.proofs.remove.Reads as enrolling-remove
+use Rattle.waiting.proofs.join.Reads as waiting-join
+use Rattle.waiting.proofs.leave.Reads as waiting-leave
+use Rattle.waiting.proofs.tick.Reads as waiting-tick
+use Rattle.turns.proofs.calls.challenge.Reads as challenge
+use Rattle.turns.proofs.calls.reply.Reads as reply
+use Rattle.turns.proofs.calls.renew.Reads as renew
+use mathlib.Core.List.{map}
 use Rattle.line.specs.Line.{waiting}
-use Rattle.login.specs.Table.{view}
-use Rattle.login.specs.Steps.{settled, answered}
+use Rattle.rooms.specs.Rooms.{roomOf}
+use Rattle.accounts.specs.Accounts.{proposal}
+use Rattle.controller.specs.Table.{view}
+use Rattle.controller.specs.Steps.{settled, answered}
 use Rattle.demands.specs.Determined.{Answers, AnswersSeen, AnswersAndLent, Lent, both, left}
 
 -- A line is seen as the ports that wait, with their accounts, and the turn.
@@ -75,36 +82,49 @@ right-determined k a y z e f p q = p ∙ sym q
 pub wrong-determined : AnswersAndLent wrong.Learnt (λ k e. now (e .0))
 wrong-determined k a y z e f p q = both p q
 
+-- An account is seen as what it means, without the zeros after its seed.
+pub holds-determined : Answers holds.Learnt
+holds-determined k a y z e f p q = p ∙ sym q
+
+pub account-of-determined : AnswersSeen account-of.Learnt (λ k y. roomOf y)
+account-of-determined k a y z e f p q = p ∙ sym q
+
+pub put-determined : AnswersSeen put.Learnt (λ k y. map roomOf y)
+put-determined k a y z e f p q = p ∙ sym q
+
+pub propose-determined : AnswersSeen propose.Learnt (λ k y. proposal y)
+propose-determined k a y z e f p q = p ∙ sym q
+
+pub write-challenge-determined : AnswersAndLent write-challenge.Learnt (λ k e. now (e .1 .0))
+write-challenge-determined k a y z e f p q = left _ _ p q
+
+pub lower-determined : AnswersSeen lower.Learnt (λ k y. roomOf y)
+lower-determined k a y z e f p q = p ∙ sym q
+
 -- A table is seen by its view, beside the answer.
-pub find-determined : Answers find.Learnt
-find-determined k a y z e f p q = p .0 ∙ sym (q .0)
-
-pub account-at-determined : Answers account-at.Learnt
-account-at-determined k a y z e f p q = p .0 ∙ sym (q .0)
-
-pub login-fresh-determined : AnswersSeen login-fresh.Learnt (λ k y. view y)
-login-fresh-determined k a y z e f p q = p ∙ sym q
-
-pub login-tick-determined : AnswersSeen login-tick.Learnt (λ k y. view y)
-login-tick-determined k a y z e f p q = p ∙ sym q
+pub controller-fresh-determined : AnswersSeen controller-fresh.Learnt (λ k y. view y)
+controller-fresh-determined k a y z e f p q = p ∙ sym q
 
 pub enrol-determined : AnswersSeen enrol.Learnt (λ k y. settled y)
 enrol-determined k a y z e f p q = p ∙ sym q
 
-pub login-remove-determined : AnswersSeen login-remove.Learnt (λ k y. settled y)
-login-remove-determined k a y z e f p q = p ∙ sym q
+pub enrolling-remove-determined : AnswersSeen enrolling-remove.Learnt (λ k y. settled y)
+enrolling-remove-determined k a y z e f p q = p ∙ sym q
 
-pub login-join-determined : AnswersSeen login-join.Learnt (λ k y. settled y)
-login-join-determined k a y z e f p q = p ∙ sym q
+pub waiting-join-determined : AnswersSeen waiting-join.Learnt (λ k y. settled y)
+waiting-join-determined k a y z e f p q = p ∙ sym q
 
-pub login-leave-determined : AnswersSeen login-leave.Learnt (λ k y. settled y)
-login-leave-determined k a y z e f p q = p ∙ sym q
+pub waiting-leave-determined : AnswersSeen waiting-leave.Learnt (λ k y. settled y)
+waiting-leave-determined k a y z e f p q = p ∙ sym q
+
+pub waiting-tick-determined : AnswersSeen waiting-tick.Learnt (λ k y. view y)
+waiting-tick-determined k a y z e f p q = p ∙ sym q
+
+pub challenge-determined : AnswersAndLent challenge.Learnt (λ k e. now (e .1 .1 .0))
+challenge-determined k a y z e f p q = left _ _ p q
 
 pub reply-determined : AnswersSeen reply.Learnt (λ k y. answered y)
 reply-determined k a y z e f p q = p ∙ sym q
 
 pub renew-determined : AnswersSeen renew.Learnt (λ k y. answered y)
 renew-determined k a y z e f p q = p ∙ sym q
-
-pub challenge-determined : AnswersAndLent challenge.Learnt (λ k e. now (e .1 .1 .0))
-challenge-determined k a y z e f p q = left _ _ p q

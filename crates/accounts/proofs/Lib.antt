@@ -1,0 +1,3 @@
+-- What the proofs of `accounts`' functions share.
+pub mod Kept
+pub mod Order

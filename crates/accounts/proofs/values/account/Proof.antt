@@ -1,0 +1,22 @@
+-- `account` meets its promise: the seed in lower case, then the rest of sixteen zeros.
+use Prim.Native.Nat.{ℕ}
+use mathlib.Core.Path.{_≡_, refl, ap, ap₂, _∙_}
+use mathlib.Core.List.{List, map}
+use borrow.Author.Needs.{needs}
+use lib.ListN.{take}
+use lib.Seq.{take-at}
+use Rattle.text.specs.Kinds.{lowerOf}
+use Rattle.rooms.specs.Rooms.{Room}
+use Rattle.accounts.proofs.values.account.Statement.{statement}
+use Rattle.accounts.proofs.values.account.Tie as tie
+
+returns : tie.Need-returns
+returns c =
+    let a = c .before .before .before .before .before .before .args in
+    let put = c .before .before .before .put-lower .ensures in
+    ap₂ (λ (seed : List ℕ) (password : ℕ). record { id = a .id; seed = seed; count = a .count; password = password })
+    (ap₂ (λ (n : ℕ) (l : List ℕ). take n l) (put .0) (put .1) ∙ take-at (map lowerOf (a .seed .now)) _ _ refl)
+    (c .number-of .ensures)
+
+pub account-spec : {M : Type 1} → statement M
+account-spec = tie.close (tie.spec (λ c. search needs) (λ c κs. search needs) (λ c κs. search needs) returns)

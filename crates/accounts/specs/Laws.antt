@@ -1,0 +1,30 @@
+-- New values beside a free room: 63 is never given.
+use Prim.Native.Nat.{ℕ}
+use mathlib.Core.Path.{_≡_, refl, sym, ap, _∙_}
+use mathlib.Core.List.{List, [], _∷_, map}
+use native.Mathlib.Omega.{arith}
+use Rattle.text.specs.Tests.{same}
+use Rattle.text.specs.Kinds.{lowerOf}
+use Rattle.refusal.specs.declared.Refusal.{Refusal}
+use Rattle.refusal.specs.declared.Checked.{Checked}
+use Rattle.refusal.specs.Checks.{unless}
+use Rattle.inputs.specs.Checks.{seedChecked}
+use Rattle.inputs.specs.Laws.{good-seed}
+use Rattle.rooms.specs.Rooms.{free}
+use Rattle.accounts.specs.Accounts.{inOrder, countWithin, seedOther, valuesChecked}
+
+-- A good seed isn't empty.
+other : (seed : List ℕ) → seedChecked seed ≡ Checked.Good → seedOther seed free ≡ Checked.Good
+unfolding same
+other [] e = let some = good-seed [] e .0 in absurd (omega arith)
+other (b ∷ seed) e = refl
+
+-- Enrol: 51, 23, 24.
+pub values-enrolled : (count : ℕ) (seed : List ℕ) → valuesChecked count seed free ≡ inOrder (countWithin count ∷ seedChecked seed ∷ [])
+unfolding valuesChecked
+values-enrolled count seed =
+    ap (unless Checked.Refused (countWithin count)) (by (seedChecked seed) (seedOther seed free) (other seed))
+  where
+    by : (a b : Checked) → (a ≡ Checked.Good → b ≡ Checked.Good) → inOrder (a ∷ b ∷ []) ≡ inOrder (a ∷ [])
+    by Checked.Good b f = ap (λ (k : Checked). unless Checked.Refused k Checked.Good) (f refl)
+    by (Checked.Refused why) b f = refl

@@ -1,0 +1,2 @@
+-- What the proofs of `enrolling`'s functions share.
+pub mod Order

@@ -1,0 +1,43 @@
+-- `remove` meets its promise: refused where no such account is there, else its room is free and its ports have left.
+use mathlib.Core.Path.{_≡_, sym, ap, _∙_}
+use borrow.Author.Needs.{needs}
+use Rattle.refusal.specs.declared.Checked.{Checked}
+use Rattle.refusal.specs.Checks.{unless}
+use Rattle.rooms.specs.Rooms.{free, placeOf}
+use Rattle.line.specs.Line.{removed}
+use Rattle.controller.specs.Table.{view, withRoom, withLine}
+use Rattle.controller.specs.Steps.{After, refused, done, remove}
+use Rattle.enrolling.proofs.remove.Statement.{statement}
+use Rattle.enrolling.proofs.remove.Tie as tie
+
+abbrev from : tie.After-check-remove → tie.Start
+from c = c .before .before
+
+-- Remove, by what its check says.
+abbrev by-check : tie.Start → Checked → After Checked
+by-check c check =
+    let s = view (c .args .table) in
+    unless (refused s) check (done (withLine (removed (c .args .id) (s .line)) (withRoom (placeOf (c .args .id) (s .rooms)) free s)))
+
+returns : tie.Need-returns
+unfolding remove
+returns c =
+    let checked = c .before .before in
+    let s = view (from checked .args .table) in
+    ap (λ (k : Checked). record { answer = k; state = s }) (c .enum-told .given .1)
+    ∙ sym (ap (by-check (from checked)) (sym (checked .check-remove .ensures) ∙ c .enum-told .given .1))
+
+returns-2 : tie.Need-returns-2
+unfolding remove
+returns-2 c =
+    let housed = c .before .before in
+    let told = housed .before in
+    let checked = told .before .before in
+    let s = view (from checked .args .table) in
+    (λ i. record { answer = told .enum-told2 .given .1 i; state = record { rooms = housed .put .ensures i; ports = s .ports; line = c .remove .ensures i } })
+    ∙ sym (ap (by-check (from checked)) (sym (checked .check-remove .ensures) ∙ told .enum-told2 .given .1))
+
+pub remove-spec : {M : Type 1} → statement M
+remove-spec =
+    tie.close
+    (tie.spec (λ c κs. search needs) (λ c. search needs) returns (λ c. search needs) (λ c κs. search needs) (λ c κs. search needs) returns-2)

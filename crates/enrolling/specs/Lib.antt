@@ -1,0 +1,2 @@
+-- Only what a private function cites: the calls' promises are over `controller`'s definitions.
+pub mod Inside

@@ -1,0 +1,2 @@
+-- What the proofs of `rooms`' functions share.
+pub mod Places

@@ -1,0 +1,2 @@
+-- What the proofs of `turns`' functions share.
+pub mod Order

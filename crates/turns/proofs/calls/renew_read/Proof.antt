@@ -1,0 +1,46 @@
+-- `renew_read` meets its promise: a refusal to read is the answer, and a password is offered.
+use Prim.Native.Nat.{ℕ}
+use mathlib.Core.Path.{_≡_, sym, ap, _∙_}
+use borrow.Author.Needs.{needs}
+use Rattle.refusal.specs.declared.Reading.{Reading}
+use Rattle.reply.specs.Reading.{readingOf}
+use Rattle.rooms.specs.Rooms.{Room, roomOf}
+use Rattle.controller.specs.declared.Replied.{Replied}
+use Rattle.controller.specs.Table.{State, view}
+use Rattle.controller.specs.Steps.{After, read, offered}
+use Rattle.turns.proofs.Order.{read-refused}
+use Rattle.turns.proofs.calls.renew_read.Statement.{statement}
+use Rattle.turns.proofs.calls.renew_read.Tie as tie
+
+abbrev next : ℕ → Room → State → ℕ → After Replied
+next port room s password = offered port password room s
+
+returns : tie.Need-returns
+returns c =
+    let said = c .before .before .before in
+    let a = said .before .before .args in
+    let s = view (a .table) in
+    ap (λ (x : Replied). record { answer = x; state = s }) (c .refusal-of .ensures)
+    ∙ read-refused s (said .read .result) _ (next (a .port) (roomOf (a .next)) s) (c .before .enum-told .given .1)
+    ∙ ap (λ (r : Reading). read s r (next (a .port) (roomOf (a .next)) s)) (said .read .ensures)
+
+returns-2 : tie.Need-returns-2
+returns-2 c =
+    let known = c .before in
+    let said = known .before .before .before in
+    let a = said .before .before .args in
+    let s = view (a .table) in
+    let right : readingOf (a .text .now) ≡ Reading.Password (known .before .reading .given .0 .0) = sym (said .read .ensures) ∙ known .before .reading .given .1 in
+    c .offer .ensures ∙ sym (ap (λ (r : Reading). read s r (next (a .port) (roomOf (a .next)) s)) right)
+
+pub renew-read-spec : {M : Type 1} → statement M
+renew-read-spec =
+    tie.close
+    (tie.spec
+    (λ c κs. search needs)
+    (λ c. search needs)
+    (λ c. search needs)
+    (λ c κs. search needs)
+    returns
+    (λ c κs. search needs)
+    returns-2)

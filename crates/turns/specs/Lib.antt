@@ -1,0 +1,2 @@
+-- Only what private functions cite: the calls' promises are over `controller`'s definitions.
+pub mod Inside

@@ -1,0 +1,2 @@
+-- What the proofs of `waiting`'s functions share.
+pub mod Order
