@@ -1,9 +1,12 @@
 -- What holds of tables that calls make.
 use Prim.Native.Nat.{_≤_}
+use mathlib.Core.Path.{_≡_, subst}
+use mathlib.Core.List.{List, []}
 use lib.ListN.{length}
+use Rattle.line.specs.declared.Place.{Place}
 use Rattle.controller.specs.Table.{State}
 use Rattle.demands.specs.Turns.{Reached}
-use Rattle.demands.specs.Made.{Made}
+use Rattle.demands.specs.Made.{Made, TurnRight}
 use Rattle.demands.specs.Few.{at-most-four}
 use Rattle.demands.specs.Keeps.{made}
 
@@ -13,3 +16,7 @@ tables-are-made s r = made s r
 -- At most four are in line.
 pub four-in-line : (s : State) → Reached s → length (s .line .places) ≤ 4
 four-in-line s r = at-most-four (s .line) (made s r .standing)
+
+-- "while the line is empty the turn stands at 0"
+pub empty-line-turn-0 : (s : State) → Reached s → s .line .places ≡ [] → s .line .turn ≡ 0
+empty-line-turn-0 s r e = subst (λ (places : List Place). TurnRight places (s .line .turn)) e (made s r .standing .turn)

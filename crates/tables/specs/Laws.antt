@@ -6,7 +6,7 @@ use mathlib.Core.Bool.{Bool, true, false, cond, not, _&&_}
 use mathlib.Core.List.{List, [], _∷_}
 use native.Mathlib.Omega.{arith}
 use native.Mathlib.Decide.{ℕ-discrete}
-use borrow.Author.Tests.{eq-eqb, ne-eqb, eqb-false, le-ltb, ltb-true, ltb-false, not-true}
+use borrow.Author.Tests.{eq-eqb, ne-eqb, eqb-false, le-ltb, lt-ltb, ltb-true, ltb-false, not-true}
 use lib.Dec.{eqb, ltb}
 use lib.ListN.{length, getD, set, length-set}
 use Rattle.refusal.specs.declared.Refusal.{Refusal}
@@ -228,3 +228,21 @@ full-exactly s h = (full, refuses)
     refuses e =
         ap (λ (b : Bool). must b Refusal.TableFull)
         (holds-times 0 (s .rooms) ∙ le-ltb 0 (times 0 (s .rooms)) (omega (arith, free-rooms)))
+
+-- "A removed account's room is used again": after a Remove that is not refused there is room, so that 53 isn't given.
+pub removed-room-left : (id : ℕ) (s : State) → Housed s → isThere id s ≡ true → roomLeft (steps.remove id s .state) ≡ Checked.Good
+unfolding is
+removed-room-left id s h e = rw (remove-done id s e) (left (ℕ-discrete id 0))
+  where
+    left : Dec (id ≡ 0) → must (holds 0 (set (s .rooms) (placeOf id (s .rooms)) free)) Refusal.TableFull ≡ Checked.Good
+    left (yes d) =
+        let f : isThere 0 s ≡ true = subst (λ (i : ℕ). isThere i s ≡ true) d e in
+        let z : _≡_ {A = ℕ} 0 1 = cc in
+        absurd (omega arith)
+    left (no d) =
+        let here = placed-id id (s .rooms) (there-placed id s e) in
+        let none : is id 0 ≡ 0 = ap (λ (b : Bool). cond b 1 0) (ne-eqb id 0 d) in
+        let more = times-set free 0 (s .rooms) (placeOf id (s .rooms)) (there-placed id s e) in
+        ap (λ (b : Bool). must b Refusal.TableFull)
+        (holds-times 0 (set (s .rooms) (placeOf id (s .rooms)) free)
+        ∙ lt-ltb 0 (times 0 (set (s .rooms) (placeOf id (s .rooms)) free)) (omega (arith, more, none, ap (λ (i : ℕ). is i 0) here)))
