@@ -1,10 +1,10 @@
 -- A number, digit by digit: what is left of a word after each, and what the digits so far decide.
-use Prim.Native.Nat.{ℕ, zero, suc, _+_, _-_, _*_, _/_, _≤_, _<_}
+use Prim.Native.Nat.{ℕ, suc, _+_, _-_, _*_, _/_, _≤_, _<_}
 use mathlib.Core.Path.{_≡_, refl, sym, _∙_, ap, ap₂}
 use mathlib.Core.Bool.{Bool, true, false, cond, _&&_}
 use mathlib.Core.List.{List, [], _∷_}
 use native.Mathlib.Omega.{arith}
-use native.Mathlib.Nat.{div-lt-iff-lt-mul, le-div-iff-mul-le, le-trans, mul-le-mul-left}
+use native.Mathlib.Nat.{div-lt-iff-lt-mul, le-div-iff-mul-le, mul-le-mul-left}
 use native.Mathlib.Numerals.{add-one}
 use lib.Dec.{leb, ltb, eqb}
 use lib.ListN.{length, getD, drop, drop-of-length-le}
@@ -12,7 +12,7 @@ use lib.Seq.{drop-cons}
 use borrow.Author.Tests.{lt-ltb, le-ltb, le-leb, lt-leb}
 use Rattle.text.specs.Kinds.{lowerOf}
 use Rattle.text.specs.Digits.{digitValue, numberAfter}
-use Rattle.text.specs.Tests.{every, either, cases}
+use Rattle.text.specs.Tests.{every, cases}
 use Rattle.replay.specs.declared.numbers.Number.{Number}
 use Rattle.replay.specs.Words.{digitIn, isDigitOf, numberIn}
 

@@ -1,9 +1,9 @@
 // The table on a line: accounts by rising id, ports, the line, the turn.
+ghost use Prim.Native.Nat.{_<_};
 use crate::printing::bytes;
 use crate::printing::number;
 use crate::printing::password;
 use crate::printing::say;
-use login::table::Account;
 use login::table::Table;
 
 // A comma before each entry of a list but the first.
@@ -21,16 +21,24 @@ fn pair(k: usize, a: u64, b: u64) {
     number(b);
 }
 
-// Entry k of the accounts.
-fn account(k: usize, account: Account) {
+// A seed: the first bytes of its room.
+fn seed(kept: [u8; 16], len: usize) {
+    if len <= 16 {
+        bytes(&kept[..len]);
+    }
+}
+
+// Entry k of the accounts, from a room.
+fn account(k: usize, table: Table, at: usize)
+    requires { ⌜ at < 32 ⌝ }
+{
+    let rooms = table.rooms;
+    let account = rooms[at];
     comma(k);
     number(account.id as u64);
     say(b":");
-    let seed = account.seed;
-    let len = account.len;
-    if len <= 16 {
-        bytes(&seed[..len]);
-    }
+    let kept = account.seed;
+    seed(kept, account.len);
     say(b":");
     number(account.count as u64);
     say(b":");
@@ -38,7 +46,8 @@ fn account(k: usize, account: Account) {
 }
 
 // The room of the account with the least id above `last`; 32 where there is none.
-fn next_room(rooms: [Account; 32], last: u16) -> usize {
+fn next_room(table: Table, last: u16) -> usize {
+    let rooms = table.rooms;
     let mut at = 32;
     let mut least: u16 = 65535;
     let mut i = 0;
@@ -54,16 +63,17 @@ fn next_room(rooms: [Account; 32], last: u16) -> usize {
 }
 
 // How many accounts were shown.
-fn accounts(rooms: [Account; 32]) -> usize {
+fn accounts(table: Table) -> usize {
+    let rooms = table.rooms;
     let mut last: u16 = 0;
     let mut k = 0;
     while k < 32 {
-        let at = next_room(rooms, last);
+        let at = next_room(table, last);
         if 31 < at {
             return k;
         }
+        account(k, table, at);
         let room = rooms[at];
-        account(k, room);
         last = room.id;
         k += 1;
     }
@@ -104,9 +114,8 @@ fn dash(shown: usize) {
 }
 
 pub fn dump(table: Table) -> Table {
-    let rooms = table.rooms;
     say(b"ok A=");
-    dash(accounts(rooms));
+    dash(accounts(table));
     say(b" P=");
     ports(table);
     say(b" L=");

@@ -43,12 +43,12 @@ fn answer(line: &mut [u8], table: Table) -> Table {
     match call_of(&line[..end]) {
         Named::Text(call) => {
             let given = words::read(line, end, texts::kinds_of(call));
-            texts::act(call, line, given);
+            texts::answer(call, line, given);
             table
         }
         Named::Table(call) => {
             let given = words::read(line, end, tables::kinds_of(call));
-            tables::act(call, line, given, table)
+            tables::answer(call, line, given, table)
         }
         Named::Unknown => {
             printing::bad();

@@ -157,10 +157,14 @@ fn ticks(table: Table, n: u64) -> Table {
     t
 }
 
-// Answers a call on words of its kinds.
-fn answer(call: Call, line: &[u8], given: Given, table: Table) -> Table
+// Answers a call; its words may not be of its kinds.
+pub fn answer(call: Call, line: &[u8], given: Given, table: Table) -> Table
     requires { ⌜ Within given (length (now line)) ⌝ }
 {
+    if !given.good {
+        bad();
+        return table;
+    }
     let n = given.numbers;
     match call {
         Call::New => new(),
@@ -181,14 +185,4 @@ fn answer(call: Call, line: &[u8], given: Given, table: Table) -> Table
         Call::Tick => ticks(table, n[0]),
         Call::Dump => dump(table),
     }
-}
-
-pub fn act(call: Call, line: &[u8], given: Given, table: Table) -> Table
-    requires { ⌜ Within given (length (now line)) ⌝ }
-{
-    if given.good {
-        return answer(call, line, given, table);
-    }
-    bad();
-    table
 }

@@ -145,10 +145,14 @@ fn prog(stdin: &[u8]) {
     say(b"\n");
 }
 
-// Answers a call on words of its kinds.
-fn answer(call: Call, line: &[u8], given: Given)
+// Answers a call; its words may not be of its kinds.
+pub fn answer(call: Call, line: &[u8], given: Given)
     requires { ⌜ Within given (length (now line)) ⌝ }
 {
+    if !given.good {
+        bad();
+        return;
+    }
     let n = given.numbers;
     let mut buf = filled();
     match call {
@@ -166,15 +170,5 @@ fn answer(call: Call, line: &[u8], given: Given)
             first(&mut buf, n[3]),
         ),
         Call::Prog => prog(text(line, given, 0)),
-    }
-}
-
-pub fn act(call: Call, line: &[u8], given: Given)
-    requires { ⌜ Within given (length (now line)) ⌝ }
-{
-    if given.good {
-        answer(call, line, given);
-    } else {
-        bad();
     }
 }

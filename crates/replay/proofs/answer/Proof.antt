@@ -1,7 +1,6 @@
 -- `answer` is safe: the texts that `read` found stand within the line.
-use Prim.Native.Nat.{ℕ}
 use mathlib.Core.Path.{sym, subst}
-use lib.ListN.{length, length-take}
+use lib.ListN.{length-take}
 use Rattle.replay.specs.Words.{Within}
 use borrow.Author.Needs.{needs}
 use native.Mathlib.Omega.{arith}

@@ -5,10 +5,10 @@ use Rattle.replay.proofs.dump.accounts.Statement.{statement}
 use Rattle.replay.proofs.dump.accounts.Tie as tie
 
 abbrev Inv-loop : tie.InvT-loop
-Inv-loop rooms last₀ k₀ last k = k ≤ 32
+Inv-loop table rooms last₀ k₀ last k = k ≤ 32
 
 abbrev μ-loop : tie.MeasureT-loop
-μ-loop rooms last₀ k₀ last k = 32 - k
+μ-loop table rooms last₀ k₀ last k = 32 - k
 
 pub accounts-spec : {M : Type 1} → statement M
 accounts-spec =
@@ -19,9 +19,9 @@ accounts-spec =
     (λ c. search needs)
     (λ c κs. search needs)
     (λ c. search needs)
-    (λ c. search needs)
-    (λ c. search needs)
     (λ c κs. search needs)
+    (λ c. search needs)
+    (λ c. search needs)
     (λ c. search needs)
     (λ c. search needs)
     (λ c. search needs)

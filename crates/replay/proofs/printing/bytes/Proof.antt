@@ -1,6 +1,5 @@
 -- `bytes` is safe and ends: at least one byte in each turn.
 use Prim.Native.Nat.{_-_, _≤_}
-use mathlib.Core.Path.{_≡_}
 use lib.ListN.{length, length-take, length-drop}
 use borrow.Author.Needs.{needs}
 use native.Mathlib.Omega.{arith}

@@ -2,7 +2,7 @@
 use mathlib.Core.Path.{_∙_, ap}
 use Prim.Native.Nat.{ℕ, _+_}
 use mathlib.Core.List.{List}
-use lib.ListN.{drop, length}
+use lib.ListN.{drop}
 use lib.Seq.{take-length}
 use Rattle.bytes.specs.Bytes.{indexOf, slice}
 use borrow.Author.Needs.{needs}

@@ -1,6 +1,5 @@
 -- `none` meets its promise: all are zeros.
 use Rattle.replay.proofs.Places.{zeros-inside}
-use borrow.Author.Needs.{needs}
 use Rattle.replay.proofs.words.none.Statement.{statement}
 use Rattle.replay.proofs.words.none.Tie as tie
 

@@ -1,5 +1,5 @@
 -- `word_of` meets its promise: by cases of the kind.
-use mathlib.Core.Path.{sym, _∙_, ap}
+use mathlib.Core.Path.{_∙_, ap}
 use Rattle.replay.specs.declared.words.Kind.{Kind}
 use Rattle.replay.specs.Words.{ofNumber, ofBytes}
 use Rattle.replay.proofs.Places.{said}
