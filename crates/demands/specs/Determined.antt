@@ -7,7 +7,6 @@ use mathlib.Core.List.{List}
 use Prim.Native.Nat.{ℕ}
 use Rattle.refusal.specs.declared.Written.{Written}
 use Rattle.text.specs.Front.{leaves}
-
 pub mod Texts
 pub mod Passwords
 pub mod Words

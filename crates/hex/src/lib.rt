@@ -1,7 +1,7 @@
 // A password as sixteen hex digits, written and read. Document 01, 'Six words and hex'.
+use put::spell;
 use refusal::Reading;
 use refusal::Refusal;
-use put::spell;
 use refusal::Written;
 use scan::digit_value;
 use text::kinds::is_white;

@@ -3,10 +3,10 @@ ghost use Prim.Native.Nat.{_≤_};
 ghost use lib.ListN.{length};
 use crate::lending::is_untouched;
 use libc::STDOUT_FILENO;
+use put::spell;
 use refusal::Reading;
 use refusal::Refusal;
 use refusal::Written;
-use put::spell;
 
 pub fn say(text: &[u8]) {
     io::write_all(STDOUT_FILENO, text);

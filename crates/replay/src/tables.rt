@@ -15,11 +15,11 @@ use crate::words::Kind;
 use crate::words::port;
 use crate::words::short;
 use crate::words::text;
+use eight_bytes::bytes_of;
 use login::table::Answered;
 use login::table::Replied;
 use login::table::Settled;
 use login::table::Table;
-use eight_bytes::bytes_of;
 use refusal::Checked;
 
 pub enum Call {

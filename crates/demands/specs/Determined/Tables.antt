@@ -1,5 +1,5 @@
 -- The promises of `line`, `port`, `rooms`, `accounts`, `controller`, `enrolling`, `waiting` and `turns` determine their results: lines, accounts and tables as far as their bytes mean something.
-use mathlib.Core.Path.{sym, _∙_}
+use mathlib.Core.Path.{_≡_, sym, _∙_}
 use denote.Ref.{now}
 use Rattle.line.proofs.fresh.Reads as line-fresh
 use Rattle.line.proofs.join.Reads as line-join
@@ -12,9 +12,9 @@ use Rattle.port.proofs.after_wrong.Reads as after-wrong
 use Rattle.port.proofs.wrong_answer.Reads as wrong-answer
 use Rattle.port.proofs.after_right.Reads as after-right
 use Rattle.port.proofs.after_tick.Reads as after-tick
-use Rattle.port.proofs.tick.Reads as port-tick
-use Rattle.port.proofs.right.Reads as right
-use Rattle.port.proofs.wrong.Reads as wrong
+use Rattle.refusal.specs.declared.Refusal.{Refusal}
+use Rattle.port.specs.declared.Port.{Port}
+use Rattle.port.specs.Port.{cooled, rightly, wrongly, wrongAnswer}
 use Rattle.rooms.proofs.holds.Reads as holds
 use Rattle.rooms.proofs.account_of.Reads as account-of
 use Rattle.rooms.proofs.put.Reads as put
@@ -36,7 +36,7 @@ use Rattle.rooms.specs.Rooms.{roomOf}
 use Rattle.accounts.specs.Accounts.{proposal}
 use Rattle.controller.specs.Table.{view}
 use Rattle.controller.specs.Steps.{settled, answered}
-use Rattle.demands.specs.Determined.{Answers, AnswersSeen, AnswersAndLent, Lent, both, left}
+use Rattle.demands.specs.Determined.{Answers, AnswersSeen, AnswersAndLent, both, left}
 
 -- A line is seen as the ports that wait, with their accounts, and the turn.
 pub line-fresh-determined : AnswersSeen line-fresh.Learnt (λ k y. waiting y)
@@ -60,7 +60,7 @@ has-determined k a y z e f p q = p ∙ sym q
 pub front-of-determined : Answers front-of.Learnt
 front-of-determined k a y z e f p q = p ∙ sym q
 
--- A port's record is given back, or lent.
+-- A port's record, given back.
 pub after-wrong-determined : Answers after-wrong.Learnt
 after-wrong-determined k a y z e f p q = p ∙ sym q
 
@@ -73,14 +73,16 @@ after-right-determined k a y z e f p q = p ∙ sym q
 pub after-tick-determined : Answers after-tick.Learnt
 after-tick-determined k a y z e f p q = p ∙ sym q
 
-pub port-tick-determined : Lent port-tick.Learnt (λ k e. now (e .0))
-port-tick-determined k a y z e f p q = p ∙ sym q
+-- A port's record, lent. These three are proved by walks by hand, and a promise proved so has no `Learnt`: here is what each says.
+pub lent-tick-determined : (before y z : Port) → y ≡ cooled before → z ≡ cooled before → y ≡ z
+lent-tick-determined before y z p q = p ∙ sym q
 
-pub right-determined : Lent right.Learnt (λ k e. now (e .0))
-right-determined k a y z e f p q = p ∙ sym q
+pub lent-right-determined : (before y z : Port) → y ≡ rightly before → z ≡ rightly before → y ≡ z
+lent-right-determined before y z p q = p ∙ sym q
 
-pub wrong-determined : AnswersAndLent wrong.Learnt (λ k e. now (e .0))
-wrong-determined k a y z e f p q = both p q
+pub lent-wrong-determined : (before y z : Port) (r s : Refusal)
+    → (r ≡ wrongAnswer before) × (y ≡ wrongly before) → (s ≡ wrongAnswer before) × (z ≡ wrongly before) → (r ≡ s) × (y ≡ z)
+lent-wrong-determined before y z r s p q = both p q
 
 -- An account is seen as what it means, without the zeros after its seed.
 pub holds-determined : Answers holds.Learnt

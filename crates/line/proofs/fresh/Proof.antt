@@ -1,0 +1,7 @@
+-- `fresh` meets its promise: nobody waits.
+use mathlib.Core.Path.{refl}
+use Rattle.line.proofs.fresh.Statement.{statement}
+use Rattle.line.proofs.fresh.Tie as tie
+
+pub fresh-spec : {M : Type 1} → statement M
+fresh-spec = tie.close (tie.spec (λ c. refl))
