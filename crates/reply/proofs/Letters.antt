@@ -3,16 +3,16 @@ use Prim.Native.Nat.{ℕ, _+_, _*_, _-_, _^_, _≤_, _<_}
 use native.Mathlib.Omega.{arith}
 use native.Mathlib.Nat.{mul-one, pow-suc, pow-le-pow-right, lt-of-lt-of-le}
 use native.Mathlib.Numerals.{add-one}
-use mathlib.Core.Path.{_≡_, sym, _∙_, ap, ap₂}
+use mathlib.Core.Path.{_≡_, refl, sym, _∙_, ap, ap₂}
 use mathlib.Core.Bool.{Bool, true, false, cond, _&&_}
 use mathlib.Core.List.{List}
 use lib.Arith.{digits-lt}
 use lib.Dec.{leb}
 use lib.ListN.{length, getD, drop, length-map, drop-of-length-le}
 use lib.Seq.{drop-cons}
-use borrow.Author.Tests.{le-leb, lt-leb}
-use Rattle.text.specs.Kinds.{isLetter, upperOf}
-use Rattle.text.specs.Tests.{every, second-fails}
+use borrow.Author.Tests.{le-leb, lt-leb, leb-true}
+use Rattle.text.specs.Kinds.{isUpper, isLower, isLetter, lowerOf, upperOf}
+use Rattle.text.specs.Tests.{every, second-fails, cases, both}
 use Rattle.dictionary.specs.Dictionary.{numberFrom, packed}
 use Rattle.reply.specs.declared.tokens.Word.{Word}
 use Rattle.reply.specs.Reading.{isWord, upperText}
@@ -58,6 +58,22 @@ none-left-every t i h = ap (every isLetter) (drop-of-length-le t h)
 pub none-left-number : (t : List ℕ) (i v : ℕ) → length t ≤ i → numberFrom v (upperText (drop i t)) ≡ v
 unfolding numberFrom
 none-left-number t i v h = ap (λ (l : List ℕ). numberFrom v (upperText l)) (drop-of-length-le t h)
+
+-- a letter's upper case is 32 below its lower case
+pub letter-upper : (b : ℕ) → isLetter b ≡ true → (97 ≤ lowerOf b) × (lowerOf b - 32 ≡ upperOf b)
+letter-upper b e = cases (isUpper b) upper lower
+  where
+    upper : isUpper b ≡ true → (97 ≤ lowerOf b) × (lowerOf b - 32 ≡ upperOf b)
+    upper f =
+        let halves = both (leb 65 b) (leb b 90) f in
+        let from = leb-true 65 b (halves .0) in
+        let to = leb-true b 90 (halves .1) in
+        rw (le-leb 65 b from, le-leb b 90 to, lt-leb 97 b (omega arith)) (omega arith, omega arith)
+    lower : isUpper b ≡ false → (97 ≤ lowerOf b) × (lowerOf b - 32 ≡ upperOf b)
+    lower f =
+        let small : isLower b ≡ true = rw f at e in
+        let from = leb-true 97 b (both (leb 97 b) (leb b 122) small .0) in
+        rw (f, small) (from, refl)
 
 -- what a token is
 pub empty-other : (t : List ℕ) → length t ≡ 0 → Word.Other ≡ wordOf t

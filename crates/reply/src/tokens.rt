@@ -2,7 +2,7 @@
 use scan::run;
 use text::kinds::Kind;
 use text::kinds::is_letter;
-use text::kinds::upper;
+use text::kinds::lower;
 ghost use mathlib.Core.Path.{_≡_};
 ghost use Prim.Native.Nat.{_≤_, _<_, _*_, _-_, _^_};
 ghost use Rattle.text.specs.Scan.{tokens};
@@ -67,7 +67,7 @@ fn word_of(t: &[u8]) -> Word
         if !is_letter(b) {
             return Word::Other;
         }
-        letters = letters * 256 + upper(b) as u32;
+        letters = letters * 256 + (lower(b) - 32) as u32; // a letter, so its upper case
         i += 1;
     }
     Word::Packed(filled(letters, n))

@@ -1,6 +1,6 @@
-// The kinds of a byte, and the two cases of a letter. ASCII throughout: a byte over 127 is a token's byte and of no other kind.
+// The kinds of a byte, and a letter's lower case. ASCII throughout: a byte over 127 is a token's byte and of no other kind.
 ghost use mathlib.Core.Path.{_≡_};
-ghost use Rattle.text.specs.Kinds.{isLetter, isWhite, lowerOf, upperOf};
+ghost use Rattle.text.specs.Kinds.{isLetter, isWhite, lowerOf};
 
 // What a run of bytes is made of.
 pub enum Kind {
@@ -36,17 +36,4 @@ pub fn lower(b: u8) -> u8
         return b;
     }
     b + 32
-}
-
-// A lower-case letter's upper case; any other byte as it is.
-pub fn upper(b: u8) -> u8
-    ensures { λ r. ⌜ r ≡ upperOf b ⌝ }
-{
-    if b < b'a' {
-        return b;
-    }
-    if b'z' < b {
-        return b;
-    }
-    b - 32
 }

@@ -1,2 +1,2 @@
-// Texts as bytes: the kinds of bytes that document 01 names, and the two cases of a letter.
+// Texts as bytes: the kinds of bytes that document 01 names, and a letter's lower case.
 pub mod kinds;

@@ -5,7 +5,6 @@ use Rattle.refusal.proofs.listing_of.Reads as listing-of
 use Rattle.text.proofs.kinds.is_letter.Reads as is-letter
 use Rattle.text.proofs.kinds.is_white.Reads as is-white
 use Rattle.text.proofs.kinds.lower.Reads as lower
-use Rattle.text.proofs.kinds.upper.Reads as upper
 use Rattle.scan.proofs.run.Reads as run
 use Rattle.scan.proofs.digit_value.Reads as digit-value
 use Rattle.put.proofs.copy.Reads as copy
@@ -23,9 +22,6 @@ is-white-determined k a y z e f p q = p ∙ sym q
 
 pub lower-determined : Answers lower.Learnt
 lower-determined k a y z e f p q = p ∙ sym q
-
-pub upper-determined : Answers upper.Learnt
-upper-determined k a y z e f p q = p ∙ sym q
 
 pub run-determined : Answers run.Learnt
 run-determined k a y z e f p q = p ∙ sym q

@@ -4,12 +4,12 @@ use borrow.Author.Tests.{not-true, not-false}
 use mathlib.Core.Path.{_≡_, refl, sym, _∙_, ap}
 use Prim.Native.Nat.{ℕ, _≤_, _<_, _-_, _+_, _*_, _^_}
 use native.Mathlib.Omega.{arith}
-use lib.ListN.{length, drop}
+use lib.ListN.{length, getD, drop}
 use Rattle.text.specs.Kinds.{isLetter}
 use Rattle.text.specs.Tests.{every}
 use Rattle.dictionary.specs.Dictionary.{numberFrom}
 use Rattle.reply.specs.Reading.{upperText}
-use Rattle.reply.proofs.Letters.{none-left-every, none-left-number, letter-grows, four-fit, other-byte, letter-byte, letter-number, empty-other, long-other, mixed-other, letters-word}
+use Rattle.reply.proofs.Letters.{none-left-every, none-left-number, letter-grows, four-fit, other-byte, letter-byte, letter-number, letter-upper, empty-other, long-other, mixed-other, letters-word}
 use Rattle.reply.proofs.tokens.word_of.Statement.{statement}
 use Rattle.reply.proofs.tokens.word_of.Tie as tie
 
@@ -44,30 +44,39 @@ mul-letters c =
     let at = c .before .before .before .before .loop in
     omega (arith, four-fit (at .letters * 256 + 0) (at .i + 1) (letter-grows (at .letters) 0 (at .i) (at .inv .1) (omega arith)) (omega arith))
 
+sub-letters : tie.Need-sub-letters Inv-loop μ-loop
+sub-letters c =
+    let t = c .before .before .before .before .before .before .before .before .before .args .t .now in
+    let b = getD t (c .before .before .before .before .before .loop .i) 0 in
+    let letter = sym (c .before .before .is-letter .ensures) ∙ not-false _ (c .before .if3 .left) in
+    omega (arith, c .lower .ensures, letter-upper b letter .0)
+
 cast-letters : tie.Need-cast-letters Inv-loop μ-loop
-cast-letters c = omega (arith, c .upper .ok)
+cast-letters c = omega (arith, c .lower .ok)
 
 add-letters : tie.Need-add-letters Inv-loop μ-loop
 add-letters c =
     let at = c .before .before .before .before .before .loop in
     omega (
       arith,
-      four-fit (at .letters * 256 + c .upper .result) (at .i + 1)
-          (letter-grows (at .letters) (c .upper .result) (at .i) (at .inv .1) (omega (arith, c .upper .ok))) (omega arith),
+      four-fit (at .letters * 256 + (c .lower .result - 32)) (at .i + 1)
+          (letter-grows (at .letters) ((c .lower .result - 32)) (at .i) (at .inv .1) (omega (arith, c .lower .ok))) (omega arith),
     )
 
 loop-again : tie.Need-loop-again Inv-loop μ-loop
 loop-again c =
     let at = c .before .before .before .before .before .loop in
     let t = c .before .before .before .before .before .before .before .before .before .args .t .now in
-    let within = c .before .before .before .before .loop-test .taken in (
+    let within = c .before .before .before .before .loop-test .taken in
+    let letter = sym (c .before .before .is-letter .ensures) ∙ not-false _ (c .before .if3 .left) in (
       omega arith,
-      letter-grows (at .letters) (c .upper .result) (at .i) (at .inv .1) (omega (arith, c .upper .ok)),
+      letter-grows (at .letters) ((c .lower .result - 32)) (at .i) (at .inv .1) (omega (arith, c .lower .ok)),
       at .inv .2
-          ∙ letter-byte t (at .i) within (sym (c .before .before .is-letter .ensures) ∙ not-false _ (c .before .if3 .left)),
+          ∙ letter-byte t (at .i) within letter,
       at .inv .3
           ∙ letter-number t (at .i) (at .letters) within
-          ∙ ap (λ (u : ℕ). numberFrom (at .letters * 256 + u) (upperText (drop (at .i + 1) t))) (sym (c .upper .ensures)),
+          ∙ ap (λ (u : ℕ). numberFrom (at .letters * 256 + u) (upperText (drop (at .i + 1) t))) 
+              (sym (letter-upper (getD t (at .i) 0) letter .1) ∙ ap (λ (u : ℕ). u - 32) (sym (c .lower .ensures))),
     )
 
 filled-requires : tie.Need-filled-requires Inv-loop μ-loop
@@ -99,6 +108,7 @@ word-of-spec =
     returns-3
     mul-letters
     (λ c κs. search needs)
+    sub-letters
     cast-letters
     add-letters
     (λ c. omega arith)
