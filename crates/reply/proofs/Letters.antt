@@ -69,6 +69,7 @@ letter-upper b e = cases (isUpper b) upper lower
         let from = leb-true 65 b (halves .0) in
         let to = leb-true b 90 (halves .1) in
         rw (le-leb 65 b from, le-leb b 90 to, lt-leb 97 b (omega arith)) (omega arith, omega arith)
+
     lower : isUpper b ≡ false → (97 ≤ lowerOf b) × (lowerOf b - 32 ≡ upperOf b)
     lower f =
         let small : isLower b ≡ true = rw f at e in

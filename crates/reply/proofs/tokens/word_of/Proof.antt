@@ -75,8 +75,8 @@ loop-again c =
           ∙ letter-byte t (at .i) within letter,
       at .inv .3
           ∙ letter-number t (at .i) (at .letters) within
-          ∙ ap (λ (u : ℕ). numberFrom (at .letters * 256 + u) (upperText (drop (at .i + 1) t))) 
-              (sym (letter-upper (getD t (at .i) 0) letter .1) ∙ ap (λ (u : ℕ). u - 32) (sym (c .lower .ensures))),
+          ∙ ap (λ (u : ℕ). numberFrom (at .letters * 256 + u) (upperText (drop (at .i + 1) t)))
+          (sym (letter-upper (getD t (at .i) 0) letter .1) ∙ ap (λ (u : ℕ). u - 32) (sym (c .lower .ensures))),
     )
 
 filled-requires : tie.Need-filled-requires Inv-loop μ-loop
