@@ -1,7 +1,7 @@
 // A password's eight bytes and its number, first byte most significant.
 ghost use mathlib.Core.Path.{_≡_};
 ghost use Prim.Native.Nat.{_+_, _*_, _<_};
-ghost use Rattle.password.specs.Password.{numberOf, bytesOf};
+ghost use Rattle.eight_bytes.specs.EightBytes.{numberOf, bytesOf};
 
 // Four bytes as a number, first byte most significant.
 fn four(b0: u8, b1: u8, b2: u8, b3: u8) -> u64

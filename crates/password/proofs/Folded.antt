@@ -7,7 +7,7 @@ use Rattle.block.specs.Lists.{upTo}
 use Rattle.rounds.specs.declared.State.{State}
 use Rattle.md5.specs.Md5.{bytes4}
 use Rattle.password.specs.Password.{fold, numberOf}
-use Rattle.password.specs.Laws.{number-eight}
+use Rattle.eight_bytes.specs.Laws.{number-eight}
 use Rattle.password.specs.Inside.{high4}
 
 -- A byte of an exclusive or is the exclusive or of the bytes.

@@ -1,7 +1,7 @@
 -- From pass-phrase to password: document 01, the section of that name, in its order.
-use Prim.Native.Nat.{ℕ, zero, suc, _+_, _*_, _/_, _%_, _^_}
+use Prim.Native.Nat.{ℕ, zero, suc, _+_}
 use mathlib.Core.Bool.{cond}
-use mathlib.Core.List.{List, [], _∷_, _++_, map}
+use mathlib.Core.List.{List, _++_, map}
 use lib.Bits.{bitXor}
 use lib.Dec.{ltb}
 use lib.ListN.{getD}
@@ -12,24 +12,13 @@ use Rattle.refusal.specs.Checks.{unless}
 use Rattle.text.specs.Kinds.{lowerOf}
 use Rattle.md5.specs.Md5 as Md5
 use Rattle.inputs.specs.Checks.{phraseChecked, seedChecked}
+-- "The 8 bytes are one 64-bit number, first byte most significant"
+unfoldable pub use Rattle.eight_bytes.specs.EightBytes.{numberAfter}
+pub use Rattle.eight_bytes.specs.EightBytes.{numberOf, bytesOf}
 
 -- "byte i of the 16-byte digest is xored with byte i+8, giving 8 bytes"
 unfoldable pub fold : List ℕ → List ℕ
 fold digest = upTo 8 (λ i. bitXor (getD digest i 0) (getD digest (i + 8) 0))
-
--- "The 8 bytes are one 64-bit number, first byte most significant": n and then the bytes s.
-unfoldable pub numberAfter : ℕ → List ℕ → ℕ
-numberAfter n [] = n
-numberAfter n (b ∷ s) = numberAfter (n * 256 + b) s
-
-abbrev pub numberOf : List ℕ → ℕ
-numberOf bytes = numberAfter 0 bytes
-
--- The number as its 8 bytes again.
-abbrev pub bytesOf : ℕ → List ℕ
-bytesOf p =
-    (p / 2 ^ 56 % 256) ∷ (p / 2 ^ 48 % 256) ∷ (p / 2 ^ 40 % 256) ∷ (p / 2 ^ 32 % 256)
-    ∷ (p / 2 ^ 24 % 256) ∷ (p / 2 ^ 16 % 256) ∷ (p / 2 ^ 8 % 256) ∷ (p % 256) ∷ []
 
 -- The hash that an algorithm's passwords are made with: its digest, folded. There is one so far.
 pub data Algorithm : Type 0 where

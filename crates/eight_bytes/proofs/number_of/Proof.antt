@@ -4,8 +4,8 @@ use mathlib.Core.Path.{_≡_, sym, ap, ap₂, _∙_}
 use borrow.Author.Needs.{needs}
 use lib.ListN.{length}
 use Rattle.block.specs.Lists.{upTo}
-use Rattle.password.specs.Password.{numberOf}
-use Rattle.password.specs.Laws.{number-eight}
+use Rattle.eight_bytes.specs.EightBytes.{numberOf}
+use Rattle.eight_bytes.specs.Laws.{number-eight}
 use Rattle.eight_bytes.proofs.Listed.{as-eight}
 use Rattle.eight_bytes.proofs.number_of.Statement.{statement}
 use Rattle.eight_bytes.proofs.number_of.Tie as tie
