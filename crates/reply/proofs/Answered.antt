@@ -12,12 +12,15 @@ use Rattle.text.specs.Scan.{tokens, unspaced}
 use Rattle.dictionary.specs.declared.Found.{Found}
 use Rattle.dictionary.specs.Dictionary.{foundOf, placeOf}
 use Rattle.dictionary.specs.Laws.{place-packed}
-use Rattle.reply.specs.declared.tokens.Six.{Six}
+use Rattle.typed_words.specs.declared.Six.{Six}
 use Rattle.hex.specs.Hex.{hexReading}
 use Rattle.reply.specs.Reading.{isWord, upperText, sixWords, foundAfter, wordsReading, readingOf}
-use Rattle.reply.specs.Laws.{spelt-token, six-parts}
-use Rattle.reply.specs.Inside.{packedToken, sixOf}
-use Rattle.reply.proofs.Scanned.{sixIs}
+use Rattle.typed_words.specs.Laws.{spelt-token, six-parts}
+use Rattle.typed_words.specs.Inside.{packedToken, sixOf}
+
+-- the answer of `six_words`
+abbrev sixIs : Bool → List ℕ → Six
+sixIs b ws = record { are = b; words = ws }
 
 six-told : (b : Bool) (ws zs : List ℕ) (six : Six) → six ≡ cond b (sixIs true ws) (sixIs false zs) → six .are ≡ true → (b ≡ true) × (six .words ≡ ws)
 six-told true ws zs six e h = (refl, ap (λ (s : Six). s .words) e)

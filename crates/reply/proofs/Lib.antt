@@ -1,5 +1,2 @@
--- Lemmas that the proofs of this crate share.
-pub mod Letters
-pub mod Scanned
-pub mod Looked
+-- Lemmas that the proof of this crate stands on.
 pub mod Answered

@@ -1,4 +1,2 @@
--- The definitions that the promise of `reply` cites, and its laws.
+-- The definition that the promise of `reply` cites.
 pub mod Reading
-pub mod Inside
-pub mod Laws

@@ -1,11 +1,9 @@
 // A reply read: six words or sixteen hex digits. Document 01, 'Six words and hex'.
 use hex::read_hex;
+use known_words::read_words;
 use refusal::Reading;
 use refusal::Refusal;
-
-mod tokens;
-mod words;
-
+use typed_words::six_words;
 ghost use mathlib.Core.Path.{_≡_};
 ghost use Rattle.reply.specs.Reading.{readingOf};
 
@@ -16,10 +14,10 @@ pub fn read(text: &[u8]) -> Reading
     if 128 < text.len() {
         return Reading::Refused(Refusal::ReplyLong);
     }
-    let six = tokens::six_words(text);
+    let six = six_words(text);
     if six.are {
         let packed = six.words;
-        return words::read_words(packed);
+        return read_words(packed);
     }
     read_hex(text)
 }

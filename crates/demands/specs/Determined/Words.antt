@@ -1,4 +1,4 @@
--- The promises of `rows`, `lookup`, `sixwords`, `hex`, `spelling` and `reply` determine their results.
+-- The promises of `rows`, `lookup`, `sixwords`, `hex`, `spelling`, `typed_words`, `known_words` and `reply` determine their results.
 use mathlib.Core.Path.{sym, _∙_}
 use denote.Ref.{now}
 use Rattle.rows.proofs.row.Reads as row
@@ -10,6 +10,8 @@ use Rattle.hex.proofs.read_hex.Reads as read-hex
 use Rattle.hex.proofs.write_hex.Reads as write-hex
 use Rattle.spelling.proofs.words_length.Reads as words-length
 use Rattle.spelling.proofs.write_words.Reads as write-words
+use Rattle.typed_words.proofs.six_words.Reads as six-words
+use Rattle.known_words.proofs.read_words.Reads as read-words
 use Rattle.reply.proofs.read.Reads as read
 use Rattle.demands.specs.Determined.{Answers, AnswersAndLent, left}
 
@@ -39,6 +41,12 @@ words-length-determined k a y z e f p q = p .0 ∙ sym (q .0)
 
 pub write-words-determined : AnswersAndLent write-words.Learnt (λ k e. now (e .1 .0))
 write-words-determined k a y z e f p q = left _ _ p q
+
+pub six-words-determined : Answers six-words.Learnt
+six-words-determined k a y z e f p q = p ∙ sym q
+
+pub read-words-determined : Answers read-words.Learnt
+read-words-determined k a y z e f p q = p ∙ sym q
 
 pub read-determined : Answers read.Learnt
 read-determined k a y z e f p q = p ∙ sym q

@@ -3,9 +3,9 @@ use borrow.Author.Needs.{needs}
 use Prim.Native.Nat.{_≤_, _-_}
 use native.Mathlib.Omega.{arith}
 use lib.ListN.{length-drop}
-use Rattle.reply.proofs.Scanned.{Scanned, scanned-none, white-within, token-within, turned, stopped, six-are, seventh, none-six, all-six}
-use Rattle.reply.proofs.tokens.six_words.Statement.{statement}
-use Rattle.reply.proofs.tokens.six_words.Tie as tie
+use Rattle.typed_words.proofs.Scanned.{Scanned, scanned-none, white-within, token-within, turned, stopped, six-are, seventh, none-six, all-six}
+use Rattle.typed_words.proofs.six_words.Statement.{statement}
+use Rattle.typed_words.proofs.six_words.Tie as tie
 
 abbrev Inv-loop : tie.InvT-loop
 Inv-loop s words₀ at₀ k₀ words at k = (k ≤ 6) × Scanned s k at words

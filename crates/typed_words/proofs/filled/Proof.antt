@@ -1,8 +1,8 @@
 -- `filled` meets its promise.
 use native.Mathlib.Omega.{arith}
-use Rattle.reply.proofs.Letters.{one-filled, two-filled, rest-filled}
-use Rattle.reply.proofs.tokens.filled.Statement.{statement}
-use Rattle.reply.proofs.tokens.filled.Tie as tie
+use Rattle.typed_words.proofs.Letters.{one-filled, two-filled, rest-filled}
+use Rattle.typed_words.proofs.filled.Statement.{statement}
+use Rattle.typed_words.proofs.filled.Tie as tie
 
 pub filled-spec : {M : Type 1} → statement M
 filled-spec =

@@ -1,4 +1,4 @@
--- Nothing outside this crate rests on these: what its private functions answer.
+-- What the functions answer, packed: nothing that a reader of document 01 needs.
 use Prim.Native.Nat.{ℕ, _+_}
 use mathlib.Core.Bool.{true, false, cond}
 use mathlib.Core.List.{List, map}
@@ -6,9 +6,9 @@ use lib.ListN.{length, take, drop, replicate}
 use Rattle.text.specs.Kinds.{isWhite, isSolid}
 use Rattle.text.specs.Scan.{runOf}
 use Rattle.dictionary.specs.Dictionary.{packed}
-use Rattle.reply.specs.declared.tokens.Word.{Word}
-use Rattle.reply.specs.declared.tokens.Six.{Six}
-use Rattle.reply.specs.Reading.{isWord, sixWords, upperText}
+use Rattle.typed_words.specs.declared.Word.{Word}
+use Rattle.typed_words.specs.declared.Six.{Six}
+use Rattle.typed_words.specs.Words.{isWord, sixWords, upperText}
 
 -- the first token of a text; nothing where there is none
 unfoldable pub firstToken : List ℕ → List ℕ

@@ -6,10 +6,10 @@ use Prim.Native.Nat.{_≤_, _-_, _+_}
 use native.Mathlib.Omega.{arith}
 use lib.ListN.{length, take, drop, length-set}
 use Rattle.dictionary.specs.Dictionary.{foundOf}
-use Rattle.reply.specs.Reading.{summed, foundAfter}
-use Rattle.reply.proofs.Looked.{word-unknown, word-known, words-known}
-use Rattle.reply.proofs.words.read_words.Statement.{statement}
-use Rattle.reply.proofs.words.read_words.Tie as tie
+use Rattle.known_words.specs.Known.{summed, foundAfter}
+use Rattle.known_words.proofs.Looked.{word-unknown, word-known, words-known}
+use Rattle.known_words.proofs.read_words.Statement.{statement}
+use Rattle.known_words.proofs.read_words.Tie as tie
 
 abbrev Inv-loop : tie.InvT-loop
 Inv-loop words places₀ k₀ places k =

@@ -1,0 +1,2 @@
+-- Lemmas that the proof of this crate stands on.
+pub mod Looked
