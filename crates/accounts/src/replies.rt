@@ -7,7 +7,7 @@ ghost use Rattle.text.specs.Front.{leaves};
 ghost use Rattle.rooms.specs.Rooms.{roomOf};
 ghost use Rattle.accounts.specs.Accounts.{lowered};
 use crate::seeds::seed_len;
-use challenge::writing::write;
+use challenge_writer::write;
 use refusal::Written;
 use rooms::Account;
 

@@ -1,5 +1,3 @@
 -- What the proofs of `cards`' functions share.
-pub mod Wrote
 pub mod Climb
 pub mod Ways
-pub mod Printed

@@ -17,9 +17,11 @@ use Rattle.password.specs.Laws.{generated-good}
 use Rattle.challenge.specs.declared.reading.Challenge.{Challenge}
 use Rattle.challenge.specs.Challenges.{challengeOf, seedOf}
 use Rattle.challenge.specs.Laws.{read-seed-good, read-count-low}
-use Rattle.cards.specs.Cards.{cardText, countOf, cardChecked, cardOf, cardWritten}
-use Rattle.cards.specs.Inside.{at, Falling}
-use Rattle.cards.specs.Laws.{lines-good, card-same}
+use Rattle.card_lines.specs.Lines.{cardText, at}
+use Rattle.card_lines.specs.Laws.{card-same}
+use Rattle.cards.specs.Cards.{countOf, cardChecked, cardOf, cardWritten}
+use Rattle.cards.specs.Inside.{Falling}
+use Rattle.cards.specs.Laws.{lines-good}
 
 module _ (phrase challenge : List ℕ) (k room : ℕ) where
   pub refused-phrase : (why : Refusal) → phraseChecked phrase ≡ Checked.Refused why → Written.Refused why ≡ cardWritten phrase challenge k room

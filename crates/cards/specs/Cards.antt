@@ -1,7 +1,7 @@
 -- 01, The card.
-use Prim.Native.Nat.{ℕ, zero, suc, _-_}
+use Prim.Native.Nat.{ℕ}
 use mathlib.Core.Bool.{_&&_}
-use mathlib.Core.List.{List, [], _∷_, _++_}
+use mathlib.Core.List.{List}
 use lib.Dec.{leb}
 use Rattle.refusal.specs.declared.Refusal.{Refusal}
 use Rattle.refusal.specs.declared.Checked.{Checked}
@@ -10,20 +10,9 @@ use Rattle.refusal.specs.Checks.{unless, must}
 use Rattle.text.specs.Front.{writtenOf}
 use Rattle.inputs.specs.Checks.{phraseChecked}
 use Rattle.password.specs.Password.{Algorithm, password}
-use Rattle.hex.specs.Hex.{hexOf}
-use Rattle.spelling.specs.Spelling.{wordsOf}
 use Rattle.challenge.specs.declared.reading.Challenge.{Challenge}
-use Rattle.challenge.specs.Counts.{decimalOf}
 use Rattle.challenge.specs.Challenges.{challengeOf, seedOf}
-
--- "count, space, hex, space, words, newline"
-unfoldable pub lineOf : ℕ → ℕ → List ℕ
-lineOf count p = decimalOf count ++ 32 ∷ [] ++ hexOf p ++ 32 ∷ [] ++ wordsOf p ++ 10 ∷ []
-
--- "A card has k lines for counts n, n-1, down to n-k+1", with the password at each count
-unfoldable pub cardText : (ℕ → ℕ) → ℕ → ℕ → List ℕ
-cardText passwordAt n zero = []
-cardText passwordAt n (suc k) = lineOf n (passwordAt n) ++ cardText passwordAt (n - 1) k
+use Rattle.card_lines.specs.Lines.{cardText}
 
 -- what is wrong with a challenge, and the count that it says
 abbrev pub challengeChecked : Challenge → Checked

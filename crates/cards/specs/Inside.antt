@@ -1,13 +1,9 @@
--- Nothing outside this crate rests on these: what its private functions promise.
+-- Nothing outside this crate rests on this: what its private functions promise.
 use Prim.Native.Nat.{ℕ, _+_, _-_, _<_}
 use mathlib.Core.Path.{_≡_}
 use mathlib.Core.List.{List}
 use lib.ListN.{getD}
 use Rattle.password.specs.Password.{Algorithm, password}
-
--- the password at a count of a card whose first line is for the count n, with the passwords in the lines' order
-abbrev pub at : List ℕ → ℕ → ℕ → ℕ
-at ps n count = getD ps (n - count) 0
 
 -- ps starts with k passwords in falling count, the last of them p
 abbrev pub Falling : ℕ → ℕ → List ℕ → Type 0

@@ -2,5 +2,3 @@
 pub mod Cards
 pub mod Inside
 pub mod Laws
-pub mod Answers
-pub mod Examples

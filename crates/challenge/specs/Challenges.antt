@@ -16,7 +16,7 @@ use Rattle.text.specs.Tests.{same}
 use Rattle.text.specs.Quoted.{codes}
 use Rattle.inputs.specs.Checks.{seedChecked}
 use Rattle.challenge.specs.declared.reading.Challenge.{Challenge}
-use Rattle.challenge.specs.Counts.{isCount, decimalOf}
+use Rattle.counts.specs.Counts.{isCount, decimalOf}
 
 -- "the four bytes `otp-` in lower case"
 unfoldable pub opening : List ℕ

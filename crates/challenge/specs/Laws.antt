@@ -1,29 +1,27 @@
--- Laws of tokens and counts, and that what is written reads back.
-use Prim.Native.Nat.{ℕ, zero, suc, _+_, _-_, _*_, _^_, _≤_, _<_}
+-- Laws of tokens and their places, of what a challenge that is read says, and of the steps' answers.
+use Prim.Native.Nat.{ℕ, _+_, _≤_}
 use mathlib.Core.Path.{_≡_, refl, sym, _∙_, ap, ap₂}
-use mathlib.Core.Bool.{Bool, true, false, cond, not, _&&_, _||_}
-use mathlib.Core.List.{List, [], _∷_, _++_, append-assoc, append-nil, map}
+use mathlib.Core.Bool.{Bool, true, false}
+use mathlib.Core.List.{List}
 use native.Mathlib.Omega.{arith}
-use native.Mathlib.Nat.{pow-le-pow-right}
-use lib.Dec.{eqb, leb, ltb}
-use lib.ListN.{length, take, drop, getD, length-append, length-drop, length-map, length-take}
+use lib.ListN.{length, take, drop, length-append, length-drop, length-map, length-take}
 use lib.Seq.{length-take-le}
-use borrow.Author.Tests.{eqb-true, eq-eqb, leb-true, lt-ltb}
 use Rattle.refusal.specs.declared.Refusal.{Refusal}
 use Rattle.refusal.specs.declared.Checked.{Checked}
-use Rattle.refusal.specs.Checks.{unless, must}
+use Rattle.refusal.specs.Checks.{unless}
+use Rattle.refusal.specs.Laws.{must-good}
 use Rattle.text.specs.Quoted.{codes}
-use Rattle.text.specs.Kinds.{inToken, isBlank, isDigit}
-use Rattle.text.specs.Digits.{digitValue, numberOf}
-use Rattle.text.specs.DigitLaws.{value-digit, number-lt, length-digits}
-use Rattle.inputs.specs.Checks.{seedChecked}
-use Rattle.challenge.specs.declared.counts.Counted.{Counted}
-use Rattle.challenge.specs.declared.reading.Challenge.{Challenge}
-use Rattle.challenge.specs.Counts.{leadingZero, isCount, countedOf, widthOf, decimalOf}
+use Rattle.text.specs.Kinds.{inToken, isBlank}
+use Rattle.text.specs.Digits.{numberOf}
 use Rattle.text.specs.Scan.{runOf}
 use Rattle.text.specs.ScanLaws.{run-within}
-use Rattle.text.specs.Tests.{every, both, either, cases, same, same-equal}
+use Rattle.text.specs.Tests.{same, same-equal}
+use Rattle.inputs.specs.Checks.{seedChecked}
+use Rattle.counts.specs.Counts.{isCount, widthOf}
+use Rattle.counts.specs.Laws.{count-low, length-decimal}
+use Rattle.challenge.specs.declared.reading.Challenge.{Challenge}
 use Rattle.challenge.specs.Challenges.{opening, algorithm, challengeText, tokenAt, endOf, nextAt, countAt, seedAt, terminated, step1, step2, step3, step4, step5, found, challengeOf, startOf, lengthOf, seedOf}
+use Rattle.challenge.specs.Inside.{seedFrom}
 
 -- ---- tokens and their places
 
@@ -42,58 +40,12 @@ pub next-within : (text : List ℕ) (at : ℕ) → at ≤ length text → nextAt
 unfolding nextAt
 next-within text at h = run-ends-within isBlank text (endOf text at) (token-within text at h)
 
--- ---- counts
-
--- a count that was read is the token's
-pub is-read : (t : List ℕ) (n : ℕ) → countedOf t ≡ Counted.Is n → (isCount t ≡ true) × (numberOf 10 t ≡ n)
-is-read t n = by (isCount t) refl
-  where
-    by : (b : Bool) → isCount t ≡ b → cond b (Counted.Is (numberOf 10 t)) Counted.Unread ≡ Counted.Is n → (isCount t ≡ true) × (numberOf 10 t ≡ n)
-    by true f e = (f, cc)
-    by false f e = let z : _≡_ {A = ℕ} 0 1 = cc in absurd (omega arith)
-
-pub is-unread : (t : List ℕ) → countedOf t ≡ Counted.Unread → isCount t ≡ false
-is-unread t = by (isCount t) refl
-  where
-    by : (b : Bool) → isCount t ≡ b → cond b (Counted.Is (numberOf 10 t)) Counted.Unread ≡ Counted.Unread → isCount t ≡ false
-    by true f e = let z : _≡_ {A = ℕ} 0 1 = cc in absurd (omega arith)
-    by false f e = f
-
 -- ---- what a challenge that is read says
 
 -- a text with the opening has its four bytes
 pub opened-long : (text : List ℕ) → same (take 4 text) opening ≡ true → 4 ≤ length text
 unfolding opening codes
 opened-long text e = omega (arith, length-take 4 text, ap length (same-equal (take 4 text) opening e))
-
--- digits only, and few of them
-pub count-digits : (t : List ℕ) → isCount t ≡ true → (length t ≤ 4) × (every isDigit t ≡ true)
-unfolding isCount
-count-digits t e =
-    let few = leb (length t) 4 in
-    let plain = every isDigit t in
-    let tests = both (few && plain) (not (leadingZero t)) (both (leb 1 (length t)) (few && plain && not (leadingZero t)) e .1) .0 in
-    (leb-true (length t) 4 (both few plain tests .0), both few plain tests .1)
-
--- a digit stands for less than ten
-digit-values : (t : List ℕ) → every isDigit t ≡ true → every (λ b. ltb (digitValue b) 10) t ≡ true
-unfolding every
-digit-values [] e = refl
-digit-values (b ∷ t) e =
-    let halves = both (isDigit b) (every isDigit t) e in
-    let top = leb-true b 57 (both (leb 48 b) (leb b 57) (halves .0) .1) in
-    ap₂ (λ (x y : Bool). x && y) (lt-ltb (digitValue b) 10 (omega (arith, value-digit b (halves .0)))) (digit-values t (halves .1))
-
--- a count is at most 9,999
-pub count-low : (t : List ℕ) → isCount t ≡ true → numberOf 10 t ≤ 9999
-count-low t e =
-    let digits = count-digits t e in
-    let most : 10 ^ length t ≤ 10 ^ 4 = pow-le-pow-right (omega arith) {i = length t} {j = 4} (digits .0) in
-    omega (arith, number-lt 10 0 1 t (omega arith) (digit-values t (digits .1)))
-
-pub must-good : (t : Bool) (why : Refusal) → must t why ≡ Checked.Good → t ≡ true
-must-good true why e = refl
-must-good false why e = let z : _≡_ {A = ℕ} 0 1 = cc in absurd (omega arith)
 
 module _ (n s l u : ℕ) where
   -- an answer past a check that is a challenge means that the check found nothing wrong
@@ -153,15 +105,6 @@ module _ (n s l u : ℕ) where
 
 -- ---- what is written
 
-pub width-few : (n : ℕ) → (1 ≤ widthOf n) × (widthOf n ≤ 4)
-width-few n =
-    either (λ (w : ℕ). (1 ≤ w) × (w ≤ 4)) (ltb n 10) (λ e. omega arith)
-    (λ e. either (λ (w : ℕ). (1 ≤ w) × (w ≤ 4)) (ltb n 100) (λ f. omega arith)
-    (λ f. either (λ (w : ℕ). (1 ≤ w) × (w ≤ 4)) (ltb n 1000) (λ g. omega arith) (λ g. omega arith)))
-
-pub length-decimal : (n : ℕ) → length (decimalOf n) ≡ widthOf n
-length-decimal n = length-digits 10 (widthOf n) n
-
 pub length-challenge : (seed : List ℕ) (count : ℕ) → length (challengeText seed count) ≡ widthOf count + length seed + 10
 unfolding challengeText opening algorithm codes
 length-challenge seed count = simp (length-append, length-map) (omega (arith, length-decimal count))
@@ -184,19 +127,22 @@ module _ (text : List ℕ) where
       stop3 e = rw (e1, e2, e)
 
       module _ (e3 : isCount (tokenAt text (countAt text)) ≡ true) where
-        pub stop4 : (why : Refusal) → seedChecked (tokenAt text (seedAt text)) ≡ Checked.Refused why → challengeOf text ≡ Challenge.Refused why
-        unfolding challengeOf
-        stop4 why e = rw (e1, e2, e3, e)
+        -- past step 3 the count is known, and the rest goes by the seed
+        pub from-seed : (n : ℕ) → numberOf 10 (tokenAt text (countAt text)) ≡ n → challengeOf text ≡ seedFrom text n (seedAt text)
+        unfolding challengeOf seedFrom
+        from-seed n e = rw (e1, e2, e3, e)
 
-        module _ (e4 : seedChecked (tokenAt text (seedAt text)) ≡ Checked.Good) where
-          pub stop5 : terminated (drop (endOf text (seedAt text)) text) ≡ false → challengeOf text ≡ Challenge.Refused Refusal.SeedUnended
-          unfolding challengeOf
-          stop5 e = rw (e1, e2, e3, e4, e)
+module _ (text : List ℕ) (count start : ℕ) where
+  pub stop4 : (why : Refusal) → seedChecked (tokenAt text start) ≡ Checked.Refused why → seedFrom text count start ≡ Challenge.Refused why
+  unfolding seedFrom
+  stop4 why e = rw e
 
-          pub all-good : terminated (drop (endOf text (seedAt text)) text) ≡ true → challengeOf text ≡ found text
-          unfolding challengeOf
-          all-good e = rw (e1, e2, e3, e4, e)
+  module _ (e4 : seedChecked (tokenAt text start) ≡ Checked.Good) where
+    pub stop5 : terminated (drop (endOf text start) text) ≡ false → seedFrom text count start ≡ Challenge.Refused Refusal.SeedUnended
+    unfolding seedFrom
+    stop5 e = rw (e4, e)
 
-  pub found-is : (n s l : ℕ) → numberOf 10 (tokenAt text (countAt text)) ≡ n → seedAt text ≡ s → length (tokenAt text (seedAt text)) ≡ l
-      → Challenge.Read n s l (s + l + 1) ≡ found text
-  found-is n s l p q r = cc
+    pub all-good : terminated (drop (endOf text start) text) ≡ true
+        → seedFrom text count start ≡ Challenge.Read count start (length (tokenAt text start)) (endOf text start + 1)
+    unfolding seedFrom
+    all-good e = rw (e4, e)

@@ -1,6 +1,6 @@
 -- The definitions that the promises of `challenge` cite, and its laws.
-pub mod Counts
 pub mod Challenges
+pub mod Inside
 pub mod Laws
 pub mod ReadBack
 pub mod Examples

@@ -1,28 +1,28 @@
 -- What the challenge writer writes reads back: the same count, the seed in lower case, all its bytes used.
-use Prim.Native.Nat.{ℕ, zero, suc, _+_, _-_, _*_, _/_, _%_, _^_, _≤_, _<_}
+use Prim.Native.Nat.{ℕ, suc, _+_, _≤_, _<_}
 use mathlib.Core.Path.{_≡_, refl, sym, _∙_, ap, ap₂}
 use mathlib.Core.Bool.{Bool, true, false, true≢false, cond, not, _&&_, _||_}
-use mathlib.Core.List.{List, [], _∷_, _++_, append-assoc, append-nil, map}
+use mathlib.Core.List.{List, [], _∷_, _++_, append-assoc, map}
 use native.Mathlib.Omega.{arith}
-use native.Mathlib.Nat.{mod-lt}
-use lib.Dec.{eqb, leb, ltb}
-use lib.ListN.{length, take, drop, getD, length-append, length-map}
+use lib.Dec.{eqb, leb}
+use lib.ListN.{length, take, drop, length-append, length-map}
 use lib.Seq.{take-append-seam, drop-append-seam, drop-append-add}
-use borrow.Author.Tests.{eq-eqb, ne-eqb, le-leb, lt-leb, lt-ltb, leb-true, leb-false, ltb-true, ltb-false}
+use borrow.Author.Tests.{ne-eqb, le-leb, lt-leb, leb-true, leb-false}
 use Rattle.refusal.specs.declared.Checked.{Checked}
-use Rattle.text.specs.Kinds.{inToken, isBlank, isDigit, isLetter, isUpper, isLower, lowerOf}
-use Rattle.text.specs.Tests.{every, every-append, every-weaker, second-fails, both, either, cases, same, same-self}
+use Rattle.text.specs.Kinds.{inToken, isBlank, isDigit, isLetter, isUpper, lowerOf}
+use Rattle.text.specs.Tests.{every, every-weaker, both, either, cases, same, same-self}
 use Rattle.text.specs.Scan.{runOf}
 use Rattle.text.specs.ScanLaws.{run-until}
-use Rattle.text.specs.Digits.{digitOf, digitsOf, numberOf}
-use Rattle.text.specs.DigitLaws.{number-digits}
+use Rattle.text.specs.Digits.{numberOf}
 use Rattle.text.specs.Quoted.{codes}
 use Rattle.inputs.specs.Checks.{plain, seedChecked}
 use Rattle.inputs.specs.Laws.{good-seed}
+use Rattle.counts.specs.Counts.{isCount, widthOf, decimalOf}
+use Rattle.counts.specs.Laws.{width-few, length-decimal}
+use Rattle.counts.specs.ReadBack.{digits-decimal, decimal-count, decimal-number}
 use Rattle.challenge.specs.declared.reading.Challenge.{Challenge}
-use Rattle.challenge.specs.Counts.{leadingZero, isCount, widthOf, decimalOf}
-use Rattle.challenge.specs.Challenges.{opening, algorithm, tokenAt, endOf, nextAt, countAt, seedAt, terminated, found, challengeOf, startOf, lengthOf, seedOf, challengeText}
-use Rattle.challenge.specs.Laws.{width-few, length-decimal, length-challenge, all-good, found-is, seed-part}
+use Rattle.challenge.specs.Challenges.{opening, algorithm, tokenAt, endOf, nextAt, countAt, seedAt, terminated, challengeOf, seedOf, challengeText}
+use Rattle.challenge.specs.Laws.{length-challenge, from-seed, all-good, seed-part}
 
 -- ---- the bytes that are written end no token
 
@@ -68,43 +68,6 @@ lower-good seed e =
     let good = good-seed seed e in
     let count = length-map seed lowerOf in
     rw (le-leb 1 (length (map lowerOf seed)) (omega arith), le-leb (length (map lowerOf seed)) 16 (omega arith), lower-plain seed (good .2))
-
--- ---- a written count is a count
-
-digits-decimal : (k n : ℕ) → every isDigit (digitsOf 10 k n) ≡ true
-unfolding digitsOf every
-digits-decimal zero n = refl
-digits-decimal (suc k) n =
-    every-append isDigit (digitsOf 10 k (n / 10)) (digitOf (n % 10) ∷ [])
-    ∙ ap₂ (λ (x y : Bool). x && (y && true)) (digits-decimal k (n / 10)) (digit (n % 10) (mod-lt n {m = 10} (omega arith)))
-  where
-    digit : (d : ℕ) → d < 10 → isDigit (digitOf d) ≡ true
-    digit d h = rw (lt-ltb d 10 h, le-leb 48 (48 + d) (omega arith), le-leb (48 + d) 57 (omega arith))
-
-first-digit : (d : ℕ) → 1 ≤ d → d < 10 → eqb (digitOf d) 48 ≡ false
-first-digit d h g = rw (lt-ltb d 10 g) (ne-eqb (48 + d) 48 (λ e. omega arith))
-
-no-leading-zero : (n : ℕ) → n ≤ 9999 → leadingZero (decimalOf n) ≡ false
-unfolding digitsOf
-no-leading-zero n h =
-    either (λ (w : ℕ). leadingZero (digitsOf 10 w n) ≡ false) (ltb n 10) (λ e. refl)
-    (λ e. either (λ (w : ℕ). leadingZero (digitsOf 10 w n) ≡ false) (ltb n 100) (λ f. first-digit (n / 10 % 10) (omega (arith, ltb-false n 10 e, ltb-true n 100 f)) (omega arith))
-    (λ f. either (λ (w : ℕ). leadingZero (digitsOf 10 w n) ≡ false) (ltb n 1000) (λ g. first-digit (n / 10 / 10 % 10) (omega (arith, ltb-false n 100 f, ltb-true n 1000 g)) (omega arith))
-    (λ g. first-digit (n / 10 / 10 / 10 % 10) (omega (arith, ltb-false n 1000 g)) (omega arith))))
-
-pub decimal-count : (n : ℕ) → n ≤ 9999 → isCount (decimalOf n) ≡ true
-unfolding isCount
-decimal-count n h =
-    let width = width-few n in
-    let count = length-decimal n in
-    rw (le-leb 1 (length (decimalOf n)) (omega arith), le-leb (length (decimalOf n)) 4 (omega arith), digits-decimal (widthOf n) n, no-leading-zero n h)
-
-pub decimal-number : (n : ℕ) → n ≤ 9999 → numberOf 10 (decimalOf n) ≡ n
-decimal-number n h =
-    number-digits 10 (widthOf n) n (omega arith) (omega arith)
-    (either (λ (w : ℕ). n < 10 ^ w) (ltb n 10) (λ e. omega (arith, ltb-true n 10 e))
-    (λ e. either (λ (w : ℕ). n < 10 ^ w) (ltb n 100) (λ f. omega (arith, ltb-true n 100 f))
-    (λ f. either (λ (w : ℕ). n < 10 ^ w) (ltb n 1000) (λ g. omega (arith, ltb-true n 1000 g)) (λ g. omega arith))))
 
 -- ---- a token between other bytes
 
@@ -216,12 +179,11 @@ module _ (seed : List ℕ) (count : ℕ) (good : seedChecked seed ≡ Checked.Go
   pub written-read : challengeOf (challengeText seed count) ≡ Challenge.Read count (9 + widthOf count) (length seed) (length (challengeText seed count))
   unfolding algorithm codes
   written-read =
-      all-good text opening-read (ap (λ (t : List ℕ). same t algorithm) name-read ∙ same-self algorithm)
-      (ap isCount count-read ∙ decimal-count count low)
-      (ap seedChecked seed-read ∙ lower-good seed good)
-      ended
-      ∙ sym (found-is text count (9 + widthOf count) (length seed) (ap (numberOf 10) count-read ∙ decimal-number count low) seed-at (ap length seed-read ∙ length-map seed lowerOf))
-      ∙ ap (Challenge.Read count (9 + widthOf count) (length seed)) (omega (arith, length-challenge seed count))
+      from-seed text opening-read (ap (λ (t : List ℕ). same t algorithm) name-read ∙ same-self algorithm)
+      (ap isCount count-read ∙ decimal-count count low) count (ap (numberOf 10) count-read ∙ decimal-number count low)
+      ∙ all-good text count (seedAt text) (ap seedChecked seed-read ∙ lower-good seed good) ended
+      ∙ ap₂ (λ (s l : ℕ). Challenge.Read count s l (endOf text (seedAt text) + 1)) seed-at (ap length seed-read ∙ length-map seed lowerOf)
+      ∙ ap (Challenge.Read count (9 + widthOf count) (length seed)) end-at
 
   -- the seed in lower case
   pub written-seed-read : seedOf (challengeText seed count) ≡ map lowerOf seed

@@ -3,9 +3,11 @@ ghost use mathlib.Core.Path.{_≡_};
 ghost use Prim.Native.Nat.{_+_, _≤_};
 ghost use lib.ListN.{length, take, drop};
 ghost use Rattle.text.specs.Tests.{same as sameText};
+ghost use Rattle.counts.specs.Counts.{countedOf};
 ghost use Rattle.challenge.specs.Challenges as spec;
-use crate::counts::Counted;
-use crate::counts::read_count;
+ghost use Rattle.challenge.specs.Inside as inside;
+use counts::Counted;
+use counts::read_count;
 use inputs::check_seed;
 use refusal::Checked;
 use refusal::Refusal;
@@ -73,20 +75,27 @@ fn is_terminated(text: &[u8], at: usize) -> bool
     (text[at] == b' ') | (text[at] == b'\n')
 }
 
-pub fn read(text: &[u8]) -> Challenge
-    ensures { λ r. ⌜ r ≡ spec.challengeOf (now (text .entry)) ⌝ }
+// Whether the rest of the first token is the algorithm's name.
+fn is_named(text: &[u8]) -> bool
+    requires { ⌜ 4 ≤ length (now text) ⌝ }
+    ensures { λ r. ⌜ r ≡ sameText (spec.tokenAt (now (text .entry)) 4) spec.algorithm ⌝ }
 {
-    if !is_opened(text) {
-        return Challenge::Refused(Refusal::OpeningWrong);
-    }
-    if !same(token(text, 4), &ALGORITHM) {
-        return Challenge::Refused(Refusal::AlgorithmUnknown);
-    }
-    let at = next(text, 4);
-    let Counted::Is(count) = read_count(token(text, at)) else {
-        return Challenge::Refused(Refusal::CountUnread);
-    };
-    let start = next(text, at);
+    same(token(text, 4), &ALGORITHM)
+}
+
+// The count that starts at a place, if it is one.
+fn count_from(text: &[u8], at: usize) -> Counted
+    requires { ⌜ at ≤ length (now text) ⌝ }
+    ensures { λ r. ⌜ r ≡ countedOf (spec.tokenAt (now (text .entry)) at) ⌝ }
+{
+    read_count(token(text, at))
+}
+
+// The seed that starts at a place, and the byte after it: steps 4 and 5, once the count is known.
+fn seed_from(text: &[u8], count: u32, start: usize) -> Challenge
+    requires { ⌜ start ≤ length (now text) ⌝ }
+    ensures { λ r. ⌜ r ≡ inside.seedFrom (now (text .entry)) count start ⌝ }
+{
     let seed = token(text, start);
     if let Checked::Refused(why) = check_seed(seed) {
         return Challenge::Refused(why);
@@ -102,6 +111,22 @@ pub fn read(text: &[u8]) -> Challenge
         len,
         used: end + 1,
     }
+}
+
+pub fn read(text: &[u8]) -> Challenge
+    ensures { λ r. ⌜ r ≡ spec.challengeOf (now (text .entry)) ⌝ }
+{
+    if !is_opened(text) {
+        return Challenge::Refused(Refusal::OpeningWrong);
+    }
+    if !is_named(text) {
+        return Challenge::Refused(Refusal::AlgorithmUnknown);
+    }
+    let at = next(text, 4);
+    let Counted::Is(count) = count_from(text, at) else {
+        return Challenge::Refused(Refusal::CountUnread);
+    };
+    seed_from(text, count, next(text, at))
 }
 
 // The seed, as the part of the text where it stands; after a refusal the empty part at the start.

@@ -17,7 +17,7 @@ use Rattle.inputs.specs.Checks.{phraseChecked, plain, seedChecked}
 use Rattle.password.specs.Laws.{generated-good}
 use Rattle.password.specs.Bounds.{password-bound}
 use Rattle.password.specs.Password.{Algorithm, bytesOf, hash, password, generated}
-use Rattle.challenge.specs.Counts.{widthOf}
+use Rattle.counts.specs.Counts.{widthOf}
 use Rattle.challenge.specs.Challenges.{challengeOf, seedOf, challengeWritten}
 use Rattle.challenge.specs.ReadBack.{written-read, written-seed-read}
 use Rattle.hex.specs.Hex.{hexOf}

@@ -17,14 +17,15 @@ use Rattle.inputs.specs.Checks.{phraseChecked, seedChecked}
 use Rattle.password.specs.Password.{Algorithm, password, generated}
 use Rattle.password.specs.Laws.{generated-good}
 use Rattle.challenge.specs.declared.reading.Challenge.{Challenge}
-use Rattle.challenge.specs.Counts.{widthOf, decimalOf}
+use Rattle.counts.specs.Counts.{widthOf, decimalOf}
 use Rattle.challenge.specs.Challenges.{challengeOf, seedOf, challengeText}
 use Rattle.challenge.specs.ReadBack.{written-read, written-seed-read}
 use Rattle.hex.specs.Hex.{hexOf}
 use Rattle.spelling.specs.Spelling.{sixWordsOf, wordsOf}
 use Rattle.reply.specs.Reading.{sixWords, upperText, readingOf}
 use Rattle.readback.specs.Replies as Laws
-use Rattle.cards.specs.Cards.{cardText, countOf, cardChecked, cardOf}
+use Rattle.card_lines.specs.Lines.{cardText}
+use Rattle.cards.specs.Cards.{countOf, cardChecked, cardOf}
 use Rattle.readback.specs.Cards as CardLaws
 use Rattle.password.specs.Bounds.{password-bound}
 

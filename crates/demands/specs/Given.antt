@@ -18,7 +18,7 @@ use Rattle.dictionary.specs.Words.{wordsIn, lines, words}
 use Rattle.dictionary.specs.Dictionary as Dictionary
 use Rattle.sixwords.specs.Places.{pairs, pairSum, allPlaces, numberOf}
 use Rattle.sixwords.specs.Places as Places
-use Rattle.challenge.specs.Counts.{isCount}
+use Rattle.counts.specs.Counts.{isCount}
 use Rattle.challenge.specs.Challenges.{opening, algorithm, tokenAt, nextAt, countAt, seedAt, challengeOf}
 use Rattle.text.specs.Tests.{same}
 use Rattle.hex.specs.Hex.{hexOf}

@@ -28,7 +28,7 @@ use Rattle.tables.specs.Calls.{Call, after}
 use Rattle.demands.specs.Turns.{tickOf, quiet}
 use Rattle.demands.specs.Each.{Each}
 use Rattle.demands.specs.Made.{isKept, AccountGood}
-use Rattle.challenge.specs.Laws.{must-good}
+use Rattle.refusal.specs.Laws.{must-good}
 use Rattle.demands.specs.Good.{all-good}
 use Rattle.demands.specs.Rooms.{there-parts, holder-id}
 

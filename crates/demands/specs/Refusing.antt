@@ -25,7 +25,7 @@ use Rattle.sixwords.specs.Places.{numberOf as placesNumber}
 use Rattle.digest.specs.Digest.{digestOf}
 use Rattle.md5.specs.Md5.{md5}
 use Rattle.challenge.specs.declared.reading.Challenge.{Challenge}
-use Rattle.challenge.specs.Counts.{isCount}
+use Rattle.counts.specs.Counts.{isCount}
 use Rattle.challenge.specs.Challenges.{opening, algorithm, tokenAt, endOf, countAt, seedAt, terminated, step1, step2, step3, step4, step5, found, challengeOf, challengeText, challengeWritten}
 use Rattle.text.specs.Tests.{same}
 use Rattle.hex.specs.Hex.{sixteenDigits, hexReading}
@@ -44,7 +44,7 @@ use Rattle.demands.specs.Turns.{HasTurn}
 use Rattle.demands.specs.Each.{Each}
 use Rattle.demands.specs.Listed.{isIn, refusalsOf, Within, ReadWithin, ChallengeWithin, WriteWithin}
 use Rattle.demands.specs.Made.{Made}
-use Rattle.challenge.specs.Laws.{must-good}
+use Rattle.refusal.specs.Laws.{must-good}
 use Rattle.demands.specs.Outcome.{turn-good}
 use Rattle.demands.specs.Owned.{turn-there}
 use Rattle.demands.specs.Keeps.{account-good}

@@ -1,5 +1,5 @@
 // Repeats one call of the login table, for the benchmark: the call's letter, 0, 1 or 3 for 0, 1 or 32 accounts, and how many thousand times.
-use challenge::counts::Counted;
+use counts::Counted;
 use eight_bytes::bytes_of;
 use generator::generate;
 use libc::STDIN_FILENO;
@@ -102,7 +102,7 @@ fn main() {
     if n < 3 {
         return;
     }
-    let Counted::Is(thousands) = challenge::counts::read_count(&input[2..n]) else {
+    let Counted::Is(thousands) = counts::read_count(&input[2..n]) else {
         return;
     };
     let accounts = match input[1] {

@@ -19,5 +19,5 @@ pub extern "C" fn lift_read_challenge(text: &[u8]) -> LiftChallenge
 pub extern "C" fn lift_write_challenge(seed: &[u8], count: u32, buf: &mut [u8]) -> LiftWritten
     ensures { λ r. ⌜ Reported (challengeWritten (now (seed .entry)) count (length (now (buf .entry)))) (challengeText (now (seed .entry)) count) (now (buf .entry)) (now (buf .exit)) r ⌝ }
 {
-    written_row(challenge::writing::write(seed, count, buf))
+    written_row(challenge_writer::write(seed, count, buf))
 }

@@ -11,11 +11,13 @@ use Rattle.password.specs.Bounds.{password-bound}
 use Rattle.hex.specs.Hex.{hexOf}
 use Rattle.spelling.specs.Spelling.{wordsOf}
 use Rattle.reply.specs.Reading.{readingOf}
-use Rattle.challenge.specs.Counts.{decimalOf}
+use Rattle.counts.specs.Counts.{decimalOf}
 use Rattle.challenge.specs.Challenges.{challengeOf, seedOf}
 use Rattle.challenge.specs.Laws.{read-seed-good, read-count-low}
-use Rattle.cards.specs.Cards.{lineOf, cardText, countOf, cardChecked, cardOf}
-use Rattle.cards.specs.Laws.{is-read, checks-good, card-line}
+use Rattle.card_lines.specs.Lines.{lineOf, cardText}
+use Rattle.card_lines.specs.Laws.{card-line}
+use Rattle.cards.specs.Cards.{countOf, cardChecked, cardOf}
+use Rattle.cards.specs.Laws.{is-read, checks-good}
 use Rattle.readback.specs.Replies.{hex-written-read, words-written-read}
 
 module _ (phrase challenge : List ℕ) (k : ℕ) (e : cardChecked phrase challenge k ≡ Checked.Good) where

@@ -128,7 +128,7 @@ fn hex(password: u64, buf: &mut [u8]) {
 }
 
 fn wchal(seed: &[u8], count: u16, buf: &mut [u8]) {
-    let result = challenge::writing::write(seed, count as u32, buf);
+    let result = challenge_writer::write(seed, count as u32, buf);
     written(result, buf);
 }
 
@@ -139,7 +139,7 @@ fn card(phrase: &[u8], challenge: &[u8], lines: u16, buf: &mut [u8]) {
 
 fn prog(stdin: &[u8]) {
     let mut stdout = [0u8; 5148];
-    let n = cards::answering::answer(stdin, &mut stdout);
+    let n = card_answers::answer(stdin, &mut stdout);
     say(b"ok ");
     bytes(&stdout[..n]);
     say(b"\n");

@@ -1,7 +1,7 @@
 -- Laws of a text at the front of a buffer: two texts one after the other, and a text that grows byte by byte.
 use Prim.Native.Nat.{ℕ, suc, _+_, _-_, _≤_, _<_}
 use mathlib.Core.Path.{_≡_, refl, sym, _∙_, ap, ap₂}
-use mathlib.Core.List.{List, _++_, append-assoc, append-nil}
+use mathlib.Core.List.{List, [], _∷_, _++_, append-assoc, append-nil}
 use native.Mathlib.Omega.{arith}
 use native.Mathlib.Numerals.{add-one}
 use lib.ListN.{length, getD, take, drop, set, length-append, length-drop, drop-of-length-le}
@@ -50,6 +50,20 @@ then-put t u b b₁ ys n m p q =
     put =
         q .1
         ∙ ap (front u) (rest-lent n b₁ ∙ ap₂ (λ (k : ℕ) (l : List ℕ). drop k l) (p .0) (p .1) ∙ drop-front t b)
+
+-- a text at the front, then one byte past it
+pub then-byte : (t b b₁ : List ℕ) (n x : ℕ) → n < length b₁ → Put t b b₁ n → Put (t ++ x ∷ []) b (set b₁ n x) (n + 1)
+then-byte t b b₁ n x h p = (
+  simp length-append (omega (arith, p .0)),
+  ap₂ (λ (l : List ℕ) (k : ℕ). set l k x) (p .1) (p .0)
+      ∙ ap (λ (l : List ℕ). set (t ++ l) (length t) x) (drop-cons b (length t) 0 (omega (arith, p .0, longer)))
+      ∙ set-at t (getD b (length t) 0) (drop (suc (length t)) b) x (length t) refl
+      ∙ sym (append-snoc t x (drop (suc (length t)) b))
+      ∙ ap (λ (k : ℕ). (t ++ x ∷ []) ++ drop k b) (sym (length-append t (x ∷ []) ∙ add-one (length t))),
+)
+  where
+    longer : length b₁ ≡ length t + (length b - length t)
+    longer = ap length (p .1) ∙ simp (length-append, length-drop)
 
 -- one byte more of t
 pub copied : (t b : List ℕ) (i : ℕ) → i < length t → length t ≤ length b → set (take i t ++ drop i b) i (getD t i 0) ≡ take (i + 1) t ++ drop (i + 1) b

@@ -1,15 +1,15 @@
--- The promises of `challenge` and `cards` determine their results.
+-- The promises of the crates of counts, challenges and cards determine their results.
 use mathlib.Core.Path.{sym, _∙_}
 use denote.Ref.{now}
-use Rattle.challenge.proofs.counts.read_count.Reads as read-count
-use Rattle.challenge.proofs.counts.width.Reads as width
-use Rattle.challenge.proofs.counts.put_count.Reads as put-count
+use Rattle.counts.proofs.read_count.Reads as read-count
+use Rattle.counts.proofs.width.Reads as width
+use Rattle.counts.proofs.put_count_and.Reads as put-count-and
 use Rattle.challenge.proofs.reading.read.Reads as read
 use Rattle.challenge.proofs.reading.seed_of.Reads as seed-of
-use Rattle.challenge.proofs.writing.put_count_space.Reads as put-count-space
-use Rattle.challenge.proofs.writing.write.Reads as write
+use Rattle.challenge_writer.proofs.write.Reads as write
+use Rattle.card_lines.proofs.write_lines.Reads as write-lines
 use Rattle.cards.proofs.writing.write_card.Reads as write-card
-use Rattle.cards.proofs.answering.answer.Reads as answer
+use Rattle.card_answers.proofs.answer.Reads as answer
 use Rattle.demands.specs.Determined.{Answers, AnswersSeen, AnswersAndLent, both, left}
 
 pub read-count-determined : Answers read-count.Learnt
@@ -18,8 +18,8 @@ read-count-determined k a y z e f p q = p ∙ sym q
 pub width-determined : Answers width.Learnt
 width-determined k a y z e f p q = p ∙ sym q
 
-pub put-count-determined : AnswersAndLent put-count.Learnt (λ k e. now (e .0))
-put-count-determined k a y z e f p q = both p q
+pub put-count-and-determined : AnswersAndLent put-count-and.Learnt (λ k e. now (e .0))
+put-count-and-determined k a y z e f p q = both p q
 
 pub read-determined : Answers read.Learnt
 read-determined k a y z e f p q = p ∙ sym q
@@ -34,11 +34,11 @@ seed-of-bytes-determined k a y z e f p q = p .1 ∙ sym (q .1)
 pub seed-of-start-determined : AnswersSeen seed-of.Learnt (λ k y. y .ptr .1)
 seed-of-start-determined k a y z e f p q = p .2 ∙ sym (q .2)
 
-pub put-count-space-determined : AnswersAndLent put-count-space.Learnt (λ k e. now (e .0))
-put-count-space-determined k a y z e f p q = both p q
-
 pub write-determined : AnswersAndLent write.Learnt (λ k e. now (e .1 .1 .0))
 write-determined k a y z e f p q = left _ _ p q
+
+pub write-lines-determined : AnswersAndLent write-lines.Learnt (λ k e. now (e .1 .1 .1 .0))
+write-lines-determined k a y z e f p q = left _ _ p q
 
 pub write-card-determined : AnswersAndLent write-card.Learnt (λ k e. now (e .1 .1 .1 .0))
 write-card-determined k a y z e f p q = left _ _ p q

@@ -16,7 +16,7 @@ use Rattle.inputs.specs.Checks.{phraseChecked}
 use Rattle.password.specs.Password.{Algorithm, password}
 use Rattle.challenge.specs.declared.reading.Challenge.{Challenge}
 use Rattle.challenge.specs.Challenges.{challengeOf, seedOf}
-use Rattle.cards.specs.Cards.{cardText, cardOf}
+use Rattle.cards.specs.Cards.{cardOf}
 use Rattle.cards.specs.Inside.{Falling}
 use Rattle.cards.specs.Laws.{lines-good}
 use Rattle.cards.proofs.Ways.{refused-phrase, refused-challenge, refused-lines, lowest, walked, written}

@@ -1,21 +1,19 @@
--- `read` meets its promise: the steps from left to right.
+-- `read` meets its promise: steps 1 to 3 from left to right, then the seed's.
 use borrow.Author.Needs.{needs}
 use borrow.Author.Tests.{not-true, not-false}
-use Prim.Native.Nat.{ℕ, _+_, _≤_}
-use mathlib.Core.Path.{_≡_, refl, sym, _∙_, ap, ap₂}
-use mathlib.Core.Bool.{Bool, true, false}
+use Prim.Native.Nat.{ℕ, _≤_}
+use mathlib.Core.Path.{_≡_, sym, _∙_, ap}
+use mathlib.Core.Bool.{true}
 use mathlib.Core.List.{List}
 use native.Mathlib.Omega.{arith}
-use lib.ListN.{length, take, drop}
-use Rattle.refusal.specs.declared.Checked.{Checked}
-use Rattle.text.specs.Quoted.{codes}
+use lib.ListN.{length, take}
 use Rattle.text.specs.Digits.{numberOf}
-use Rattle.inputs.specs.Checks.{seedChecked}
 use Rattle.text.specs.Tests.{same}
-use Rattle.challenge.specs.declared.counts.Counted.{Counted}
-use Rattle.challenge.specs.Counts.{isCount, countedOf}
-use Rattle.challenge.specs.Challenges.{opening, algorithm, tokenAt, endOf, nextAt, countAt, seedAt, terminated}
-use Rattle.challenge.specs.Laws.{is-read, is-unread, opened-long, next-within, token-within, stop1, stop2, stop3, stop4, stop5, all-good, found-is}
+use Rattle.counts.specs.Counts.{isCount, countedOf}
+use Rattle.counts.specs.Laws.{is-read, is-unread}
+use Rattle.challenge.specs.Challenges.{opening, algorithm, tokenAt, nextAt, countAt, seedAt}
+use Rattle.challenge.specs.Inside.{seedFrom}
+use Rattle.challenge.specs.Laws.{opened-long, next-within, stop1, stop2, stop3, from-seed}
 use Rattle.challenge.proofs.reading.read.Statement.{statement}
 use Rattle.challenge.proofs.reading.read.Tie as tie
 
@@ -29,29 +27,19 @@ opened c = sym (c .before .is-opened .ensures) ∙ not-false _ (c .if1 .left)
 
 -- ---- step 2
 
-abbrev else₁ : tie.After-same → tie.Else1
-else₁ c = c .before .before .before
-
-name : (c : tie.After-same) → c .same .result ≡ same (tokenAt (text₁ (else₁ c)) 4) algorithm
-unfolding algorithm codes
-name c = c .same .ensures ∙ ap (λ (t : List ℕ). same t algorithm) (c .before .before .token .ensures)
+abbrev else₁ : tie.Else2 → tie.Else1
+else₁ c = c .before .before
 
 abbrev text₂ : tie.Else2 → List ℕ
-text₂ c = text₁ (else₁ (c .before))
+text₂ c = text₁ (else₁ c)
 
 named : (c : tie.Else2) → same (tokenAt (text₂ c) 4) algorithm ≡ true
-named c = sym (name (c .before)) ∙ not-false _ (c .if2 .left)
+named c = sym (c .before .is-named .ensures) ∙ not-false _ (c .if2 .left)
 
 long : (c : tie.Else2) → 4 ≤ length (text₂ c)
-long c = opened-long (text₂ c) (opened (else₁ (c .before)))
+long c = opened-long (text₂ c) (opened (else₁ c))
 
 -- ---- step 3
-
-abbrev else₂ : tie.After-read-count → tie.Else2
-else₂ c = c .before .before .before
-
-abbrev text₃ : tie.After-read-count → List ℕ
-text₃ c = text₂ (else₂ c)
 
 at-count : (c : tie.After-next) → c .next .result ≡ countAt (text₂ (c .before))
 unfolding countAt
@@ -60,77 +48,43 @@ at-count c = c .next .ensures
 count-within : (c : tie.After-next) → c .next .result ≤ length (text₂ (c .before))
 count-within c = omega (arith, c .next .ensures, next-within (text₂ (c .before)) 4 (long (c .before)))
 
-counted : (c : tie.After-read-count) → c .read-count .result ≡ countedOf (tokenAt (text₃ c) (countAt (text₃ c)))
-counted c = c .read-count .ensures ∙ ap countedOf (c .before .token2 .ensures ∙ ap (tokenAt (text₃ c)) (at-count (c .before .before)))
+abbrev text₃ : tie.After-count-from → List ℕ
+text₃ c = text₂ (c .before .before)
+
+counted : (c : tie.After-count-from) → c .count-from .result ≡ countedOf (tokenAt (text₃ c) (countAt (text₃ c)))
+counted c = c .count-from .ensures ∙ ap (λ (at : ℕ). countedOf (tokenAt (text₃ c) at)) (at-count (c .before))
 
 returns-3 : tie.Need-returns-3
 returns-3 c =
     let at = c .before .before in
-    sym (stop3 (text₃ at) (opened (else₁ (else₂ at .before))) (named (else₂ at)) (is-unread _ (sym (counted at) ∙ c .enum-told .given .1)))
+    let else2 = at .before .before in
+    sym (stop3 (text₃ at) (opened (else₁ else2)) (named else2) (is-unread _ (sym (counted at) ∙ c .enum-told .given .1)))
 
--- ---- step 4
+-- ---- steps 4 and 5
 
-abbrev count : tie.After-known-told → tie.After-read-count
+abbrev count : tie.After-known-told → tie.After-count-from
 count c = c .before .before .before
 
-abbrev text₄ : tie.After-known-told → List ℕ
-text₄ c = text₃ (count c)
-
-good-count : (c : tie.After-known-told) → (isCount (tokenAt (text₄ c) (countAt (text₄ c))) ≡ true) × (numberOf 10 (tokenAt (text₄ c) (countAt (text₄ c))) ≡ c .before .count .given .0 .0)
+good-count : (c : tie.After-known-told) → (isCount (tokenAt (text₃ (count c)) (countAt (text₃ (count c)))) ≡ true) × (numberOf 10 (tokenAt (text₃ (count c)) (countAt (text₃ (count c)))) ≡ c .before .count .given .0 .0)
 good-count c = is-read _ _ (sym (counted (count c)) ∙ c .before .count .given .1)
 
-at-seed : (c : tie.After-next2) → c .next2 .result ≡ seedAt (text₄ (c .before))
+at-seed : (c : tie.After-next2) → c .next2 .result ≡ seedAt (text₃ (count (c .before)))
 unfolding seedAt
-at-seed c = c .next2 .ensures ∙ ap (nextAt (text₄ (c .before))) (at-count (count (c .before) .before .before))
+at-seed c = c .next2 .ensures ∙ ap (nextAt (text₃ (count (c .before)))) (at-count (count (c .before) .before))
 
-seed-within : (c : tie.After-next2) → c .next2 .result ≤ length (text₄ (c .before))
-seed-within c = omega (arith, c .next2 .ensures, next-within (text₄ (c .before)) (count (c .before) .before .before .next .result) (count-within (count (c .before) .before .before)))
-
-seed : (c : tie.After-token3) → c .token3 .result .now ≡ tokenAt (text₄ (c .before .before)) (seedAt (text₄ (c .before .before)))
-seed c = c .token3 .ensures ∙ ap (tokenAt (text₄ (c .before .before))) (at-seed (c .before))
-
-checked : (c : tie.After-check-seed) → c .check-seed .result ≡ seedChecked (tokenAt (text₄ (c .before .before .before)) (seedAt (text₄ (c .before .before .before))))
-checked c = c .check-seed .ensures ∙ ap seedChecked (seed (c .before))
+seed-within : (c : tie.After-next2) → c .next2 .result ≤ length (text₃ (count (c .before)))
+seed-within c =
+    let at = count (c .before) .before in
+    omega (arith, c .next2 .ensures, next-within (text₂ (at .before)) (at .next .result) (count-within at))
 
 returns-4 : tie.Need-returns-4
 returns-4 c =
-    let at = c .before .before .before in
-    let told = at .before .before .before in
-    sym (stop4 (text₄ told) (opened (else₁ (else₂ (count told) .before))) (named (else₂ (count told))) (good-count told .0) _
-    (sym (checked at) ∙ c .before .why .given .1))
-
--- ---- step 5
-
-abbrev told₄ : tie.After-is-terminated → tie.After-known-told
-told₄ c = c .before .before .before .before .before .before
-
-good-seed : (c : tie.After-is-terminated) → seedChecked (tokenAt (text₄ (told₄ c)) (seedAt (text₄ (told₄ c)))) ≡ Checked.Good
-good-seed c = sym (checked (c .before .before .before)) ∙ c .before .enum-told2 .given .1
-
-ended : (c : tie.After-is-terminated) → c .is-terminated .result ≡ terminated (drop (endOf (text₄ (told₄ c)) (seedAt (text₄ (told₄ c)))) (text₄ (told₄ c)))
-ended c =
-    let at = c .before .before .before .before in
-    c .is-terminated .ensures
-    ∙ ap₂ (λ (s : ℕ) (t : List ℕ). terminated (drop (s + length t) (text₄ (told₄ c)))) (at-seed (at .before)) (seed at)
-
-end-within : (c : tie.After-enum-told2) → c .before .before .before .before .next2 .result + length (c .before .before .before .token3 .result .now) ≤ length (text₄ (c .before .before .before .before .before))
-end-within c =
-    let at = c .before .before .before in
-    omega (arith, ap length (at .token3 .ensures), token-within (text₄ (at .before .before)) (at .before .next2 .result) (seed-within (at .before)))
-
-returns-5 : tie.Need-returns-5
-returns-5 c =
-    let told = told₄ (c .before) in
-    sym (stop5 (text₄ told) (opened (else₁ (else₂ (count told) .before))) (named (else₂ (count told))) (good-count told .0) (good-seed (c .before))
-    (sym (ended (c .before)) ∙ not-true _ (c .if3 .taken)))
-
-returns-6 : tie.Need-returns-6
-returns-6 c =
-    let told = told₄ (c .before) in
-    let at = c .before .before .before .before .before in
-    found-is (text₄ told) _ _ _ (good-count told .1) (sym (at-seed (at .before))) (sym (ap length (seed at)))
-    ∙ sym (all-good (text₄ told) (opened (else₁ (else₂ (count told) .before))) (named (else₂ (count told))) (good-count told .0) (good-seed (c .before))
-    (sym (ended (c .before)) ∙ not-false _ (c .if3 .left)))
+    let told = c .before .before in
+    let else2 = count told .before .before in
+    let text = text₂ else2 in
+    c .seed-from .ensures
+    ∙ ap (seedFrom text (told .before .count .given .0 .0)) (at-seed (c .before))
+    ∙ sym (from-seed text (opened (else₁ else2)) (named else2) (good-count told .0) _ (good-count told .1))
 
 pub read-spec : {M : Type 1} → statement M
 read-spec =
@@ -139,23 +93,12 @@ read-spec =
     (λ c κs. search needs)
     (λ c. sym (stop1 _ (sym (c .before .is-opened .ensures) ∙ not-true _ (c .if1 .taken))))
     (λ c κs. opened-long (text₁ c) (opened c))
-    (λ c. search needs)
-    (λ c κs. search needs)
-    (λ c. sym (stop2 (text₁ (else₁ (c .before))) (opened (else₁ (c .before))) (sym (name (c .before)) ∙ not-true _ (c .if2 .taken))))
+    (λ c. sym (stop2 (text₁ (c .before .before)) (opened (c .before .before)) (sym (c .before .is-named .ensures) ∙ not-true _ (c .if2 .taken))))
     (λ c κs. long c)
     (λ c κs. count-within c)
-    (λ c κs. search needs)
     (λ c. search needs)
     (λ c. search needs)
     returns-3
-    (λ c κs. count-within (count c .before .before))
+    (λ c κs. count-within (count c .before))
     (λ c κs. seed-within c)
-    (λ c κs. search needs)
-    (λ c. search needs)
-    returns-4
-    (λ c. search needs)
-    (λ c. omega (arith, end-within c))
-    (λ c κs. search needs)
-    returns-5
-    (λ c. omega (arith, end-within (c .before .before), else₁ (else₂ (count (told₄ (c .before))) .before) .before .before .before .good .0 .1))
-    returns-6)
+    returns-4)

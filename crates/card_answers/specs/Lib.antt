@@ -1,0 +1,3 @@
+-- The definitions that the promises of `card_answers` cite, and examples.
+pub mod Answers
+pub mod Examples

@@ -1,0 +1,2 @@
+-- What the proofs of `card_lines`' functions share.
+pub mod Wrote

@@ -1,2 +1,0 @@
--- What the proofs of `challenge`'s functions share.
-pub mod Numbers

@@ -1,0 +1,16 @@
+-- Nothing outside this crate rests on this: what its private functions promise.
+use Prim.Native.Nat.{ℕ, _+_}
+use mathlib.Core.List.{List}
+use lib.ListN.{length, drop}
+use Rattle.refusal.specs.declared.Refusal.{Refusal}
+use Rattle.refusal.specs.Checks.{unless, must}
+use Rattle.inputs.specs.Checks.{seedChecked}
+use Rattle.challenge.specs.declared.reading.Challenge.{Challenge}
+use Rattle.challenge.specs.Challenges.{tokenAt, endOf, terminated}
+
+-- steps 4 and 5, for a seed that starts at a place
+unfoldable pub seedFrom : List ℕ → ℕ → ℕ → Challenge
+seedFrom text count start =
+    unless Challenge.Refused (seedChecked (tokenAt text start))
+    (unless Challenge.Refused (must (terminated (drop (endOf text start) text)) Refusal.SeedUnended)
+    (Challenge.Read count start (length (tokenAt text start)) (endOf text start + 1)))
