@@ -1,9 +1,9 @@
 // The card, for C.
 ghost use lib.ListN.{length};
 ghost use Rattle.cards.specs.Cards.{cardOf, cardWritten};
-ghost use Rattle.panel.specs.Answers.{Reported};
-use crate::answers::LiftWritten;
-use crate::answers::written_row;
+ghost use Rattle.panel_rows.specs.Answers.{Reported};
+use panel_rows::LiftWritten;
+use panel_rows::written_row;
 
 #[no_mangle]
 pub extern "C" fn lift_write_card(

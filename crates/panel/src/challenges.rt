@@ -2,11 +2,11 @@
 ghost use mathlib.Core.Path.{_≡_};
 ghost use lib.ListN.{length};
 ghost use Rattle.challenge.specs.Challenges.{challengeOf, challengeText, challengeWritten};
-ghost use Rattle.panel.specs.Answers.{challengeRow, Reported};
-use crate::answers::LiftChallenge;
-use crate::answers::LiftWritten;
-use crate::answers::challenge_row;
-use crate::answers::written_row;
+ghost use Rattle.panel_rows.specs.Answers.{challengeRow, Reported};
+use panel_rows::LiftChallenge;
+use panel_rows::LiftWritten;
+use panel_rows::challenge_row;
+use panel_rows::written_row;
 
 #[no_mangle]
 pub extern "C" fn lift_read_challenge(text: &[u8]) -> LiftChallenge

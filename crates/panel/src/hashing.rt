@@ -4,11 +4,11 @@ ghost use lib.ListN.{length};
 ghost use Rattle.digest.specs.Digest.{digestOf};
 ghost use Rattle.md5.specs.Md5.{md5};
 ghost use Rattle.password.specs.Password as Password;
-ghost use Rattle.panel.specs.Answers.{readingRow, Reported};
-use crate::answers::LiftReading;
-use crate::answers::LiftWritten;
-use crate::answers::reading_row;
-use crate::answers::written_row;
+ghost use Rattle.panel_rows.specs.Answers.{readingRow, Reported};
+use panel_rows::LiftReading;
+use panel_rows::LiftWritten;
+use panel_rows::reading_row;
+use panel_rows::written_row;
 
 #[no_mangle]
 pub extern "C" fn lift_md5(text: &[u8], digest: &mut [u8]) -> LiftWritten

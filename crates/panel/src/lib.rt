@@ -1,8 +1,6 @@
 // The functions that the panel firmware calls from C (include/lift.h): numbers and byte slices only.
 // Each is a thin cover of a proved function, with its answer laid out as a C struct.
 
-// An answer as C sees it: a value and a refusal's number.
-mod answers;
 // The card.
 pub mod card;
 // Challenges.

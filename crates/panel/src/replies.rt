@@ -6,11 +6,11 @@ ghost use Rattle.password.specs.Password.{numberOf, bytesOf};
 ghost use Rattle.reply.specs.Reading.{readingOf};
 ghost use Rattle.hex.specs.Hex.{hexOf};
 ghost use Rattle.spelling.specs.Spelling.{wordsOf};
-ghost use Rattle.panel.specs.Answers.{readingRow, Reported};
-use crate::answers::LiftReading;
-use crate::answers::LiftWritten;
-use crate::answers::reading_row;
-use crate::answers::written_row;
+ghost use Rattle.panel_rows.specs.Answers.{readingRow, Reported};
+use panel_rows::LiftReading;
+use panel_rows::LiftWritten;
+use panel_rows::reading_row;
+use panel_rows::written_row;
 
 #[no_mangle]
 pub extern "C" fn lift_read_reply(text: &[u8]) -> LiftReading

@@ -1,4 +1,4 @@
--- The promises of the functions that C calls determine their results.
+-- The promises of the functions that C calls determine their results, and so do those of the rows that they answer with.
 use mathlib.Core.Path.{sym, _∙_}
 use denote.Ref.{now}
 use Rattle.panel.proofs.hashing.lift_md5.Reads as lift-md5
@@ -11,6 +11,9 @@ use Rattle.panel.proofs.challenges.lift_write_challenge.Reads as lift-write-cha
 use Rattle.panel.proofs.card.lift_write_card.Reads as lift-write-card
 use Rattle.panel.proofs.replies.lift_password_of.Reads as lift-password-of
 use Rattle.panel.proofs.replies.lift_bytes_of.Reads as lift-bytes-of
+use Rattle.panel_rows.proofs.reading_row.Reads as reading-row
+use Rattle.panel_rows.proofs.written_row.Reads as written-row
+use Rattle.panel_rows.proofs.challenge_row.Reads as challenge-row
 use Rattle.demands.specs.Determined.{Answers, AnswersAndLent, Lent, both}
 
 pub lift-md5-determined : AnswersAndLent lift-md5.Learnt (λ k e. now (e .1 .0))
@@ -42,3 +45,12 @@ lift-password-of-determined k a y z e f p q = p ∙ sym q
 
 pub lift-bytes-of-determined : Lent lift-bytes-of.Learnt (λ k e. now (e .1 .0))
 lift-bytes-of-determined k a y z e f p q = p ∙ sym q
+
+pub reading-row-determined : Answers reading-row.Learnt
+reading-row-determined k a y z e f p q = p ∙ sym q
+
+pub written-row-determined : Answers written-row.Learnt
+written-row-determined k a y z e f p q = p ∙ sym q
+
+pub challenge-row-determined : Answers challenge-row.Learnt
+challenge-row-determined k a y z e f p q = p ∙ sym q

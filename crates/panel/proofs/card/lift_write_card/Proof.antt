@@ -1,7 +1,7 @@
 -- `lift_write_card` meets its promise: the card writer's answer, laid out, and the buffer as it left it.
 use borrow.Author.Needs.{needs}
 use Rattle.cards.specs.Cards.{cardOf}
-use Rattle.panel.proofs.Laid.{laid}
+use Rattle.panel_rows.specs.Laid.{laid}
 use Rattle.panel.proofs.card.lift_write_card.Statement.{statement}
 use Rattle.panel.proofs.card.lift_write_card.Tie as tie
 

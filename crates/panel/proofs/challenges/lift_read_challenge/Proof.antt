@@ -1,7 +1,7 @@
 -- `lift_read_challenge` meets its promise: the reader's answer, laid out.
 use mathlib.Core.Path.{ap, _∙_}
 use borrow.Author.Needs.{needs}
-use Rattle.panel.specs.Answers.{challengeRow}
+use Rattle.panel_rows.specs.Answers.{challengeRow}
 use Rattle.panel.proofs.challenges.lift_read_challenge.Statement.{statement}
 use Rattle.panel.proofs.challenges.lift_read_challenge.Tie as tie
 

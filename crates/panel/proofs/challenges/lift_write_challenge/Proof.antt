@@ -1,7 +1,7 @@
 -- `lift_write_challenge` meets its promise: the writer's answer, laid out, and the buffer as it left it.
 use borrow.Author.Needs.{needs}
 use Rattle.challenge.specs.Challenges.{challengeText}
-use Rattle.panel.proofs.Laid.{laid}
+use Rattle.panel_rows.specs.Laid.{laid}
 use Rattle.panel.proofs.challenges.lift_write_challenge.Statement.{statement}
 use Rattle.panel.proofs.challenges.lift_write_challenge.Tie as tie
 

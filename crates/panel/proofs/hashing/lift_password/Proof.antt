@@ -1,7 +1,7 @@
 -- `lift_password` meets its promise: the generator's answer, laid out.
 use mathlib.Core.Path.{ap, _∙_}
 use borrow.Author.Needs.{needs}
-use Rattle.panel.specs.Answers.{readingRow}
+use Rattle.panel_rows.specs.Answers.{readingRow}
 use Rattle.panel.proofs.hashing.lift_password.Statement.{statement}
 use Rattle.panel.proofs.hashing.lift_password.Tie as tie
 

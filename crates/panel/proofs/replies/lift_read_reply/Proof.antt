@@ -1,7 +1,7 @@
 -- `lift_read_reply` meets its promise: the reader's answer, laid out.
 use mathlib.Core.Path.{ap, _∙_}
 use borrow.Author.Needs.{needs}
-use Rattle.panel.specs.Answers.{readingRow}
+use Rattle.panel_rows.specs.Answers.{readingRow}
 use Rattle.panel.proofs.replies.lift_read_reply.Statement.{statement}
 use Rattle.panel.proofs.replies.lift_read_reply.Tie as tie
 

@@ -1,7 +1,7 @@
 -- `lift_write_hex` meets its promise: the writer's answer, laid out, and the buffer as the writer left it.
 use borrow.Author.Needs.{needs}
 use Rattle.hex.specs.Hex.{hexOf}
-use Rattle.panel.proofs.Laid.{laid}
+use Rattle.panel_rows.specs.Laid.{laid}
 use Rattle.panel.proofs.replies.lift_write_hex.Statement.{statement}
 use Rattle.panel.proofs.replies.lift_write_hex.Tie as tie
 

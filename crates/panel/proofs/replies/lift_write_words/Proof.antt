@@ -1,7 +1,7 @@
 -- `lift_write_words` meets its promise: the writer's answer, laid out, and the buffer as the writer left it.
 use borrow.Author.Needs.{needs}
 use Rattle.spelling.specs.Spelling.{wordsOf}
-use Rattle.panel.proofs.Laid.{laid}
+use Rattle.panel_rows.specs.Laid.{laid}
 use Rattle.panel.proofs.replies.lift_write_words.Statement.{statement}
 use Rattle.panel.proofs.replies.lift_write_words.Tie as tie
 

@@ -7,9 +7,9 @@ use Rattle.refusal.specs.declared.Reading.{Reading}
 use Rattle.refusal.specs.declared.Written.{Written}
 use Rattle.refusal.specs.Numbers.{listingOf}
 use Rattle.challenge.specs.declared.reading.Challenge.{Challenge}
-use Rattle.panel.specs.declared.answers.LiftChallenge.{LiftChallenge}
-use Rattle.panel.specs.declared.answers.LiftReading.{LiftReading}
-use Rattle.panel.specs.declared.answers.LiftWritten.{LiftWritten}
+use Rattle.panel_rows.specs.declared.LiftChallenge.{LiftChallenge}
+use Rattle.panel_rows.specs.declared.LiftReading.{LiftReading}
+use Rattle.panel_rows.specs.declared.LiftWritten.{LiftWritten}
 
 abbrev pub readingRow : Reading → LiftReading
 readingRow (Reading.Password p) = record { password = p; refusal = 0; place = 0 }

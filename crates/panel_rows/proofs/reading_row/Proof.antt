@@ -2,10 +2,10 @@
 use mathlib.Core.Path.{sym, ap, _∙_}
 use borrow.Author.Needs.{needs}
 use Rattle.refusal.specs.declared.Listing.{Listing}
-use Rattle.panel.specs.declared.answers.LiftReading.{LiftReading}
-use Rattle.panel.specs.Answers.{readingRow}
-use Rattle.panel.proofs.answers.reading_row.Statement.{statement}
-use Rattle.panel.proofs.answers.reading_row.Tie as tie
+use Rattle.panel_rows.specs.declared.LiftReading.{LiftReading}
+use Rattle.panel_rows.specs.Answers.{readingRow}
+use Rattle.panel_rows.proofs.reading_row.Statement.{statement}
+use Rattle.panel_rows.proofs.reading_row.Tie as tie
 
 -- The row of a refusal's listing.
 abbrev refusedRow : Listing → LiftReading

@@ -4,8 +4,8 @@ use mathlib.Core.Path.{_≡_, ap, _∙_}
 use mathlib.Core.List.{List}
 use Rattle.refusal.specs.declared.Written.{Written}
 use Rattle.text.specs.Front.{leaves}
-use Rattle.panel.specs.declared.answers.LiftWritten.{LiftWritten}
-use Rattle.panel.specs.Answers.{writtenRow, Reported}
+use Rattle.panel_rows.specs.declared.LiftWritten.{LiftWritten}
+use Rattle.panel_rows.specs.Answers.{writtenRow, Reported}
 
 -- The library's function answered w, which is a, and left b′.
 pub laid : (a w : Written) (t b b′ : List ℕ) (r : LiftWritten) → w ≡ a → b′ ≡ leaves w t b → r ≡ writtenRow w

@@ -2,10 +2,10 @@
 use mathlib.Core.Path.{sym, ap, _∙_}
 use borrow.Author.Needs.{needs}
 use Rattle.refusal.specs.declared.Listing.{Listing}
-use Rattle.panel.specs.declared.answers.LiftChallenge.{LiftChallenge}
-use Rattle.panel.specs.Answers.{challengeRow}
-use Rattle.panel.proofs.answers.challenge_row.Statement.{statement}
-use Rattle.panel.proofs.answers.challenge_row.Tie as tie
+use Rattle.panel_rows.specs.declared.LiftChallenge.{LiftChallenge}
+use Rattle.panel_rows.specs.Answers.{challengeRow}
+use Rattle.panel_rows.proofs.challenge_row.Statement.{statement}
+use Rattle.panel_rows.proofs.challenge_row.Tie as tie
 
 -- The row of a refusal's listing.
 abbrev refusedRow : Listing → LiftChallenge

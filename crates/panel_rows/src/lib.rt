@@ -1,6 +1,6 @@
 // Answers as C sees them: `refusal` is 0 or the paper's number, and the values are 0 beside a refusal.
 ghost use mathlib.Core.Path.{_≡_};
-ghost use Rattle.panel.specs.Answers.{challengeRow, readingRow, writtenRow};
+ghost use Rattle.panel_rows.specs.Answers.{challengeRow, readingRow, writtenRow};
 use challenge::reading::Challenge;
 use refusal::Reading;
 use refusal::Written;

@@ -2,10 +2,10 @@
 use mathlib.Core.Path.{sym, ap, _∙_}
 use borrow.Author.Needs.{needs}
 use Rattle.refusal.specs.declared.Listing.{Listing}
-use Rattle.panel.specs.declared.answers.LiftWritten.{LiftWritten}
-use Rattle.panel.specs.Answers.{writtenRow}
-use Rattle.panel.proofs.answers.written_row.Statement.{statement}
-use Rattle.panel.proofs.answers.written_row.Tie as tie
+use Rattle.panel_rows.specs.declared.LiftWritten.{LiftWritten}
+use Rattle.panel_rows.specs.Answers.{writtenRow}
+use Rattle.panel_rows.proofs.written_row.Statement.{statement}
+use Rattle.panel_rows.proofs.written_row.Tie as tie
 
 -- The row of a refusal's listing.
 abbrev refusedRow : Listing → LiftWritten

@@ -1,2 +1,0 @@
--- What the proofs of `panel`'s functions share.
-pub mod Laid

@@ -1,2 +1,0 @@
--- The definitions that the promises of `panel` cite.
-pub mod Answers
