@@ -11,7 +11,7 @@ import time
 sys.dont_write_bytecode = True
 
 import harness  # noqa: E402
-from sections import cards, challenges, day, docs, paper, passwords, replay, replies, selftest  # noqa: E402
+from sections import cards, challenges, day, docs, paper, passwords, promises, replay, replies, selftest  # noqa: E402
 
 SECTIONS = [
     ("comparison can fail", selftest.comparison_can_fail),
@@ -37,6 +37,7 @@ SECTIONS = [
     ("program replay on its inputs", replay.inputs),
     ("program replay on lines that are no call", replay.no_calls),
     ("program replay at random", replay.at_random),
+    ("what docs/PROMISES.md names", promises.page),
     ("figures in README.md", docs.figures),
     ("commands in the documents", docs.commands),
 ]

@@ -1,0 +1,107 @@
+"""docs/PROMISES.md: what it names is there, and what it lists is all there is."""
+import re
+
+from harness import ROOT, Failed
+
+CRATES = ROOT / "crates"
+PAGE = ROOT / "docs" / "PROMISES.md"
+DETERMINED = CRATES / "demands" / "specs" / "Determined"
+# Functions on a lent record, proved by hand: the theorems cite their promises by the definitions.
+BY_HAND = {"port::tick", "port::right", "port::wrong"}
+
+
+def section(heading):
+    """The rows of the table under a heading, each as its cells."""
+    text = PAGE.read_text().partition(f"## {heading}\n")[2].partition("\n## ")[0]
+    return [[cell.strip() for cell in line.strip("|").split("|")] for line in text.splitlines()
+            if line.startswith("|")][2:]
+
+
+def functions():
+    """Each function of a library by its path, with its head: visibility, name and clauses."""
+    for crate in sorted(CRATES.iterdir()):
+        for source in sorted((crate / "src").glob("**/*.rt")):
+            if (crate / "src" / "main.rt").exists():
+                continue
+            inside = source.relative_to(crate / "src").with_suffix("").parts
+            path = [crate.name, *(part for part in inside if part != "lib")]
+            for head in re.findall(r"^(?:pub )?(?:extern \"C\" )?fn .*?^\{", source.read_text(), re.M | re.S):
+                yield "::".join([*path, re.search(r"fn (\w+)", head)[1]]), head
+
+
+def named(cells):
+    """Functions by their paths: a name without a crate stands in the module of the one before it."""
+    module = ""
+    for name in re.findall(r"`([\w:]+)`", cells):
+        module = name.rpartition("::")[0] or module
+        yield name if "::" in name else f"{module}::{name}"
+
+
+def files():
+    """The files that a reader must believe."""
+    seen = 0
+    for cells in section("What a reader must believe"):
+        folder = None
+        for name in re.findall(r"[\w/]+\.antt", cells[0]):
+            path = ROOT / name if "/" in name else folder / name
+            folder = path.parent
+            if not path.is_file():
+                raise Failed(f"no such file: {name}")
+            seen += 1
+    return seen
+
+
+def edits():
+    """The must-fail edits of the wrong programs."""
+    names = [name for cells in section("Wrong programs") for name in cells[2].split(", ")]
+    for name in names:
+        crate, _, edit = name.partition("/")
+        if not (CRATES / crate / "must-fail" / f"{edit}.edit").is_file():
+            raise Failed(f"no such edit: {name}")
+    return len(names)
+
+
+def theorems():
+    """The theorems of the letter's sentences and of document 01's."""
+    stated = set()
+    for path in CRATES.glob("*/specs/**/*.antt"):
+        stated |= set(re.findall(r"^\s*pub ([\w-]+)(?: \{[^}]*\})? :", path.read_text(), re.M))
+    names = {name for heading in ("The letter's demands", "Document 01") for cells in section(heading)
+             for name in re.findall(r"`([a-z\d]+(?:-[a-z\d]+)+)`", cells[1])}
+    if names - stated:
+        raise Failed(f"stated nowhere: {', '.join(sorted(names - stated))}")
+    return len(names)
+
+
+def asking():
+    """The functions that ask something of their callers are those of the list."""
+    listed = {name for cells in section("Inner functions with a `requires`") for name in named(cells[0])}
+    short = {name.split("::")[0] + "::" + name.split("::")[-1] for name in listed}
+    asks = {name.split("::")[0] + "::" + name.split("::")[-1]: head for name, head in functions()
+            if re.search(r"^\s*requires \{", head, re.M)}
+    if short != set(asks):
+        raise Failed(f"listed or asking, not both: {', '.join(sorted(short ^ set(asks)))}")
+    return len(asks)
+
+
+def determined():
+    """Each public function that another crate can name has its theorem that its promise determines its results."""
+    cited = set()
+    for path in DETERMINED.glob("*.antt"):
+        cited |= set(re.findall(r"^use Rattle·([\w.]+)\.Reads", path.read_text(), re.M))
+    count = 0
+    for name, head in functions():
+        crate, *inside, function = name.split("::")
+        root = (CRATES / crate / "src" / "lib.rt").read_text()
+        if not head.startswith("pub ") or any(f"pub mod {part};" not in root for part in inside):
+            continue
+        if ".".join([crate, "proofs", *inside, function]) not in cited and name not in BY_HAND:
+            raise Failed(f"no theorem in Determined cites the promise of {name}")
+        count += 1
+    return count
+
+
+def page(driver):
+    """Everything that the page names or lists."""
+    return (f"{files()} files, {theorems()} theorems, {edits()} edits, {asking()} inner functions; "
+            f"{determined()} public functions, each with its theorem that its promise determines its results")
