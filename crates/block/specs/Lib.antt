@@ -1,4 +1,2 @@
--- The definitions that the promises of `block` cite, and laws for the crates above it.
-pub mod Lists
-pub mod Padding
+-- Laws for the crates above `block`; the definitions that its promises cite stand in `rfc1321`.
 pub mod Laws

@@ -7,10 +7,10 @@ use Rattle.text.specs.Scan.{runOf}
 use Rattle.text.specs.Digits.{digitsOf, numberAfter}
 use Rattle.text.specs.Quoted.{codes}
 use Rattle.text.specs.Tests.{every, same}
-use Rattle.block.specs.Lists.{upTo}
-use Rattle.block.specs.Padding.{paddedByte, paddedWord, blockAt, absorbed}
-use Rattle.md5.specs.Md5.{md5, registers}
-use Rattle.rounds.specs.Rounds.{compressed, rounds, performed, operation, round1, round2, round3, round4}
+use Rattle.rfc1321.specs.Lists.{upTo}
+use Rattle.rfc1321.specs.Padding.{paddedByte, paddedWord, blockAt, absorbed}
+use Rattle.rfc1321.specs.Md5.{md5, registers}
+use Rattle.rfc1321.specs.Rounds.{compressed, rounds, performed, operation, round1, round2, round3, round4}
 use Rattle.inputs.specs.Checks.{plain}
 use Rattle.password.specs.Password.{fold, numberAfter as bytesAfter, hash, password}
 use Rattle.dictionary.specs.Words.{wordsIn, lines, words}

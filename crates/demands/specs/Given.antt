@@ -8,10 +8,10 @@ use Rattle.text.specs.Scan.{runOf, parted, unspaced}
 use Rattle.text.specs.Digits as Digits
 use Rattle.text.specs.Digits.{digitsOf}
 use Rattle.text.specs.Quoted.{codes}
-use Rattle.block.specs.Lists.{upTo}
-use Rattle.block.specs.Padding.{paddedByte, paddedWord, blockAt, absorbed}
-use Rattle.md5.specs.Md5.{md5, registers}
-use Rattle.rounds.specs.Rounds.{compressed, rounds, performed, operation, round1, round2, round3, round4}
+use Rattle.rfc1321.specs.Lists.{upTo}
+use Rattle.rfc1321.specs.Padding.{paddedByte, paddedWord, blockAt, absorbed}
+use Rattle.rfc1321.specs.Md5.{md5, registers}
+use Rattle.rfc1321.specs.Rounds.{compressed, rounds, performed, operation, round1, round2, round3, round4}
 use Rattle.inputs.specs.Checks.{plain}
 use Rattle.password.specs.Password.{Algorithm, fold, numberAfter, bytesOf, hash, generated}
 use Rattle.dictionary.specs.Words.{wordsIn, lines, words}

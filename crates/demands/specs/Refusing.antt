@@ -23,7 +23,7 @@ use Rattle.dictionary.specs.Dictionary.{placeOf}
 use Rattle.sixwords.specs.declared.Number.{Number}
 use Rattle.sixwords.specs.Places.{numberOf as placesNumber}
 use Rattle.digest.specs.Digest.{digestOf}
-use Rattle.md5.specs.Md5.{md5}
+use Rattle.rfc1321.specs.Md5.{md5}
 use Rattle.challenge.specs.declared.reading.Challenge.{Challenge}
 use Rattle.counts.specs.Counts.{isCount}
 use Rattle.challenge.specs.Challenges.{opening, algorithm, tokenAt, endOf, countAt, seedAt, terminated, step1, step2, step3, step4, step5, found, challengeOf, challengeText, challengeWritten}

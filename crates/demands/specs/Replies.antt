@@ -10,7 +10,7 @@ use Rattle.refusal.specs.declared.Refusal.{Refusal}
 use Rattle.refusal.specs.declared.Checked.{Checked}
 use Rattle.refusal.specs.declared.Reading.{Reading}
 use Rattle.refusal.specs.Checks.{unless}
-use Rattle.md5.specs.Md5 as Md5
+use Rattle.rfc1321.specs.Md5 as Md5
 use Rattle.password.specs.Password.{Algorithm, bytesOf, hash}
 use Rattle.reply.specs.Reading.{readingOf}
 use Rattle.line.specs.Line.{standsIn}

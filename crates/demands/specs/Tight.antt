@@ -10,7 +10,7 @@ use borrow.Author.Tests.{not-true}
 use lib.ListN.{replicate}
 use Rattle.refusal.specs.declared.Checked.{Checked}
 use Rattle.text.specs.Tests.{every, every-at}
-use Rattle.block.specs.Lists.{upTo, length-upTo, getD-upTo}
+use Rattle.rfc1321.specs.Lists.{upTo, length-upTo, getD-upTo}
 use Rattle.inputs.specs.Checks.{plain}
 use Rattle.line.specs.Line.{some, joined, others, turnWithout, without, ticked}
 use Rattle.rooms.specs.Rooms.{placeOf}

@@ -6,8 +6,8 @@ use lib.ListN.{length}
 use borrow.Rule.Slice.PartMut.{midOf, putMid}
 use Rattle.text.specs.Front.{Put}
 use Rattle.text.specs.FrontLaws.{then-put}
-use Rattle.rounds.specs.declared.State.{State}
-use Rattle.md5.specs.Md5.{bytes4, registers, md5}
+use Rattle.rfc1321.specs.declared.State.{State}
+use Rattle.rfc1321.specs.Md5.{bytes4, registers, md5}
 
 pub digest-put : (m : List ℕ) (q : State) (b b₁ ys : List ℕ) (n k : ℕ) → q ≡ registers m
     → Put (bytes4 (q .a) ++ bytes4 (q .b)) b b₁ n

@@ -7,7 +7,7 @@ use lib.ListN.{length}
 use Rattle.refusal.specs.declared.Refusal.{Refusal}
 use Rattle.refusal.specs.declared.Written.{Written}
 use Rattle.text.specs.Front.{writtenOf}
-use Rattle.md5.specs.Md5.{md5}
+use Rattle.rfc1321.specs.Md5.{md5}
 
 -- 01, From pass-phrase to password: "MD5 takes 0 to 4,096 bytes"; Refusal numbers, 12, then 40. The
 -- answer on a message m and a buffer of `room` bytes.

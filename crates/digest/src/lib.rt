@@ -4,7 +4,7 @@ ghost use Prim.Native.Nat.{_≤_};
 ghost use mathlib.Core.List.{_++_};
 ghost use lib.ListN.{length};
 ghost use Rattle.text.specs.Front.{Put, leaves};
-ghost use Rattle.md5.specs.Md5.{bytes4, md5};
+ghost use Rattle.rfc1321.specs.Md5.{bytes4, md5};
 ghost use Rattle.digest.specs.Digest.{digestOf};
 use md5::compress::registers;
 use refusal::Refusal;

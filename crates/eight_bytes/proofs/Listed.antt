@@ -5,7 +5,7 @@ use mathlib.Core.List.{List}
 use native.Mathlib.Omega.{arith}
 use lib.ListN.{length, getD}
 use lib.Seq.{ext-getD}
-use Rattle.block.specs.Lists.{upTo, length-upTo, getD-upTo}
+use Rattle.rfc1321.specs.Lists.{upTo, length-upTo, getD-upTo}
 
 pub as-eight : (l : List ℕ) → length l ≡ 8 → l ≡ upTo 8 (λ (i : ℕ). getD l i 0)
 as-eight l long =

@@ -1,3 +1,2 @@
--- What the proofs of `generator` cite beside the definitions of `password`, and a worked example.
+-- What the proofs of `generator` cite beside the definitions of `password`.
 pub mod Inside
-pub mod Examples

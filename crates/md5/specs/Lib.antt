@@ -1,4 +1,3 @@
--- The definitions that the promises of `md5` cite.
-pub mod Md5
+-- Helper definitions and laws; the definitions that the promises of `md5` cite stand in `rfc1321`.
 pub mod Inside
 pub mod Laws

@@ -7,7 +7,7 @@ use libc::STDOUT_FILENO;
 use login::calls;
 use login::table::Table;
 use login::table::fresh;
-use password::hash::step;
+use chain::step;
 use refusal::Reading;
 
 // The password of document 01's card at that count; the one at count 99 is presented here.

@@ -2,7 +2,7 @@
 ghost use mathlib.Core.Path.{_≡_};
 ghost use lib.ListN.{length};
 ghost use Rattle.digest.specs.Digest.{digestOf};
-ghost use Rattle.md5.specs.Md5.{md5};
+ghost use Rattle.rfc1321.specs.Md5.{md5};
 ghost use Rattle.password.specs.Password as Password;
 ghost use Rattle.panel_rows.specs.Answers.{readingRow, Reported};
 use panel_rows::LiftReading;

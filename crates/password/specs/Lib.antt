@@ -1,5 +1,5 @@
--- The definitions that the promises of `password` cite, and laws for the crates above it.
+-- Passwords, with a worked example; and laws for the crates above.
 pub mod Password
-pub mod Inside
+pub mod Examples
 pub mod Laws
 pub mod Bounds

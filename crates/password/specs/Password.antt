@@ -5,12 +5,12 @@ use mathlib.Core.List.{List, _++_, map}
 use lib.Bits.{bitXor}
 use lib.Dec.{ltb}
 use lib.ListN.{getD}
-use Rattle.block.specs.Lists.{upTo}
+use Rattle.rfc1321.specs.Lists.{upTo}
 use Rattle.refusal.specs.declared.Refusal.{Refusal}
 use Rattle.refusal.specs.declared.Reading.{Reading}
 use Rattle.refusal.specs.Checks.{unless}
 use Rattle.text.specs.Kinds.{lowerOf}
-use Rattle.md5.specs.Md5 as Md5
+use Rattle.rfc1321.specs.Md5 as Md5
 use Rattle.inputs.specs.Checks.{phraseChecked, seedChecked}
 -- "The 8 bytes are one 64-bit number, first byte most significant"
 unfoldable pub use Rattle.eight_bytes.specs.EightBytes.{numberAfter}

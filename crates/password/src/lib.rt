@@ -1,6 +1,1 @@
-// The hash that passwords are made with: MD5, folded.
-
-// The fold of a digest.
-mod fold;
-// The folded hash of a message, and of a password: one step of the chain.
-pub mod hash;
+// From pass-phrase to password, as document 01 defines it. No code: `chain` has the hash, `generator` the password.

@@ -2,7 +2,7 @@
 use Prim.Native.Nat.{ℕ}
 use mathlib.Core.Path.{_≡_, ap, ap₂, _∙_}
 use mathlib.Core.List.{List, [], _∷_, _++_}
-use Rattle.rounds.specs.declared.State.{State}
+use Rattle.rfc1321.specs.declared.State.{State}
 use Rattle.rounds.specs.declared.operations.Four.{Four}
 use Rattle.rounds.specs.Turns.{turn, turns, fourAt, listed}
 

@@ -1,4 +1,3 @@
--- The definitions that the promise of `rounds` cites, and the law that ties them to the RFC.
-pub mod Rounds
+-- The rounds in the code's order, and the law that ties them to the RFC's.
 pub mod Turns
 pub mod TurnLaws

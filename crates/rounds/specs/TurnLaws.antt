@@ -5,9 +5,9 @@ use mathlib.Core.List.{List}
 use native.Mathlib.Nat.{mod-add-mod, add-mod-mod}
 use native.Mathlib.Omega.{arith}
 use lib.ListN.{getD}
-use Rattle.block.specs.Lists.{getD-upTo}
-use Rattle.rounds.specs.declared.State.{State}
-use Rattle.rounds.specs.Rounds.{add, rotated, Round, operation, performed, round1, round2, round3, round4, rounds, increased, compressed}
+use Rattle.rfc1321.specs.Lists.{getD-upTo}
+use Rattle.rfc1321.specs.declared.State.{State}
+use Rattle.rfc1321.specs.Rounds.{add, rotated, Round, operation, performed, round1, round2, round3, round4, rounds, increased, compressed}
 use Rattle.rounds.specs.Turns.{turn, turns, sums, mixed}
 
 -- The sum of the RFC's operation in the code's order.

@@ -3,10 +3,10 @@
 use Prim.Native.Nat.{ℕ, zero, suc, _+_}
 use mathlib.Core.List.{List, [], _∷_}
 use lib.ListN.{getD}
-use Rattle.block.specs.Lists.{upTo}
-use Rattle.rounds.specs.declared.State.{State}
+use Rattle.rfc1321.specs.Lists.{upTo}
+use Rattle.rfc1321.specs.declared.State.{State}
 use Rattle.rounds.specs.declared.operations.Four.{Four}
-use Rattle.rounds.specs.Rounds.{add, rotated, F, G, H, I, round1, round2, round3, round4, increased}
+use Rattle.rfc1321.specs.Rounds.{add, rotated, F, G, H, I, round1, round2, round3, round4, increased}
 
 -- An operation with the function's value v at hand and the sum y of message word and constant made
 -- beforehand, so that v is waited for by one addition only.

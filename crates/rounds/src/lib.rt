@@ -1,25 +1,18 @@
 // RFC 1321, 2 and 3.4: words of 32 bits, and the four rounds on the registers.
 ghost use mathlib.Core.Path.{_≡_};
-ghost use Rattle.rounds.specs.Rounds as spec;
+ghost use Rattle.rfc1321.specs.Rounds as spec;
 ghost use Rattle.rounds.specs.Turns as code;
 use crate::operations::round_f;
 use crate::operations::round_g;
 use crate::operations::round_h;
 use crate::operations::round_i;
 use crate::words::add;
+use rfc1321::State;
 
 // Sums, rotations and the four functions on words.
 mod words;
 // The operations, and sixteen of them to a round.
 mod operations;
-
-// The four registers A, B, C, D.
-pub struct State {
-    pub a: u32,
-    pub b: u32,
-    pub c: u32,
-    pub d: u32,
-}
 
 // Each register after the rounds, increased by the value it had before them.
 fn increased(q: State, p: State) -> State

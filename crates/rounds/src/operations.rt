@@ -2,15 +2,15 @@
 ghost use mathlib.Core.Path.{_≡_};
 ghost use mathlib.Core.List.{_∷_, []};
 ghost use Prim.Native.Nat.{_<_, _≤_};
-ghost use Rattle.rounds.specs.Rounds as spec;
+ghost use Rattle.rfc1321.specs.Rounds as spec;
 ghost use Rattle.rounds.specs.Turns as code;
-use crate::State;
 use crate::words::add;
 use crate::words::f;
 use crate::words::g;
 use crate::words::h;
 use crate::words::i;
 use crate::words::rotated;
+use rfc1321::State;
 
 // Four of a round's sums, one for each operation of four.
 struct Four(u32, u32, u32, u32);

@@ -1,7 +1,7 @@
 // RFC 1321, 2 and 3.4: the operations on 32-bit words that the rounds are made of.
 ghost use mathlib.Core.Path.{_≡_};
 ghost use Prim.Native.Nat.{_<_};
-ghost use Rattle.rounds.specs.Rounds as spec;
+ghost use Rattle.rfc1321.specs.Rounds as spec;
 
 // The sum without the carry out of the top.
 pub fn add(x: u32, y: u32) -> u32

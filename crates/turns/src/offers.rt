@@ -10,7 +10,7 @@ use crate::whose::turn_id;
 use controller::Answered;
 use controller::Replied;
 use controller::Table;
-use password::hash::step;
+use chain::step;
 use port::Port;
 use port::after_right;
 use port::after_wrong;

@@ -10,8 +10,8 @@ use Rattle.digest.proofs.digest.Reads as digest
 use Rattle.inputs.proofs.check_phrase.Reads as check-phrase
 use Rattle.inputs.proofs.check_seed.Reads as check-seed
 use Rattle.inputs.proofs.put_lower.Reads as put-lower
-use Rattle.password.proofs.hash.hash.Reads as hash
-use Rattle.password.proofs.hash.step.Reads as step
+use Rattle.chain.proofs.hash.Reads as hash
+use Rattle.chain.proofs.step.Reads as step
 use Rattle.generator.proofs.generate.Reads as generate
 use Rattle.eight_bytes.proofs.number_of.Reads as number-of
 use Rattle.eight_bytes.proofs.bytes_of.Reads as bytes-of

@@ -4,7 +4,7 @@ use borrow.Author.Needs.{needs}
 use native.Mathlib.Omega.{arith}
 use lib.ListN.{length-set}
 use lib.Seq.{sets-eq}
-use Rattle.md5.specs.Md5.{bytes4}
+use Rattle.rfc1321.specs.Md5.{bytes4}
 use Rattle.digest.proofs.put4.Statement.{statement}
 use Rattle.digest.proofs.put4.Tie as tie
 

@@ -1,7 +1,7 @@
 -- `put8` meets its promise: one register, then the other into the rest.
 use borrow.Author.Needs.{needs}
 use Rattle.text.specs.FrontLaws.{then-put}
-use Rattle.md5.specs.Md5.{bytes4}
+use Rattle.rfc1321.specs.Md5.{bytes4}
 use Rattle.digest.proofs.put8.Statement.{statement}
 use Rattle.digest.proofs.put8.Tie as tie
 

@@ -3,7 +3,7 @@ use Prim.Native.Nat.{ℕ, _+_, _*_}
 use mathlib.Core.Path.{_≡_, sym, ap, ap₂, _∙_}
 use borrow.Author.Needs.{needs}
 use lib.ListN.{length}
-use Rattle.block.specs.Lists.{upTo}
+use Rattle.rfc1321.specs.Lists.{upTo}
 use Rattle.eight_bytes.specs.EightBytes.{numberOf}
 use Rattle.eight_bytes.specs.Laws.{number-eight}
 use Rattle.eight_bytes.proofs.Listed.{as-eight}

@@ -1,8 +1,8 @@
 -- `mixed` meets its promise: each round on what the one before left.
 use mathlib.Core.Path.{ap, _∙_}
 use borrow.Author.Needs.{needs}
-use Rattle.rounds.specs.declared.State.{State}
-use Rattle.rounds.specs.Rounds.{G, H, I, round2, round3, round4, increased}
+use Rattle.rfc1321.specs.declared.State.{State}
+use Rattle.rfc1321.specs.Rounds.{G, H, I, round2, round3, round4, increased}
 use Rattle.rounds.specs.Turns.{turns, mixed}
 use Rattle.rounds.proofs.mixed.Statement.{statement}
 use Rattle.rounds.proofs.mixed.Tie as tie

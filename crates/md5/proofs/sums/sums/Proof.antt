@@ -3,8 +3,8 @@ use Prim.Native.Nat.{ℕ, _-_, _<_}
 use borrow.Author.Needs.{needs}
 use native.Mathlib.Omega.{arith}
 use lib.ListN.{getD}
-use Rattle.block.specs.Lists.{Filling, filling-starts, filling-goes-on, filling-ends}
-use Rattle.rounds.specs.Rounds.{add}
+use Rattle.rfc1321.specs.Lists.{Filling, filling-starts, filling-goes-on, filling-ends}
+use Rattle.rfc1321.specs.Rounds.{add}
 use Rattle.rounds.specs.Turns.{sums}
 use Rattle.md5.proofs.Orders.{below-at}
 use Rattle.md5.proofs.sums.sums.Statement.{statement}

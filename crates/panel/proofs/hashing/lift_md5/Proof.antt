@@ -1,6 +1,6 @@
 -- `lift_md5` meets its promise: the writer's answer, laid out, and the buffer as the writer left it.
 use borrow.Author.Needs.{needs}
-use Rattle.md5.specs.Md5.{md5}
+use Rattle.rfc1321.specs.Md5.{md5}
 use Rattle.panel_rows.specs.Laid.{laid}
 use Rattle.panel.proofs.hashing.lift_md5.Statement.{statement}
 use Rattle.panel.proofs.hashing.lift_md5.Tie as tie

@@ -1,6 +1,6 @@
 -- `four_f` meets its promise: four turns, each on what the one before left.
 use borrow.Author.Needs.{needs}
-use Rattle.rounds.specs.Rounds.{F}
+use Rattle.rfc1321.specs.Rounds.{F}
 use Rattle.rounds.proofs.Fours.{four-turns}
 use Rattle.rounds.proofs.operations.four_f.Statement.{statement}
 use Rattle.rounds.proofs.operations.four_f.Tie as tie

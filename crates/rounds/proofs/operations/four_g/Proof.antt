@@ -1,6 +1,6 @@
 -- `four_g` meets its promise: four turns, each on what the one before left.
 use borrow.Author.Needs.{needs}
-use Rattle.rounds.specs.Rounds.{G}
+use Rattle.rfc1321.specs.Rounds.{G}
 use Rattle.rounds.proofs.Fours.{four-turns}
 use Rattle.rounds.proofs.operations.four_g.Statement.{statement}
 use Rattle.rounds.proofs.operations.four_g.Tie as tie

@@ -1,6 +1,6 @@
 -- `four_h` meets its promise: four turns, each on what the one before left.
 use borrow.Author.Needs.{needs}
-use Rattle.rounds.specs.Rounds.{H}
+use Rattle.rfc1321.specs.Rounds.{H}
 use Rattle.rounds.proofs.Fours.{four-turns}
 use Rattle.rounds.proofs.operations.four_h.Statement.{statement}
 use Rattle.rounds.proofs.operations.four_h.Tie as tie

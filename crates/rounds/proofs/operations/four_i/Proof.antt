@@ -1,6 +1,6 @@
 -- `four_i` meets its promise: four turns, each on what the one before left.
 use borrow.Author.Needs.{needs}
-use Rattle.rounds.specs.Rounds.{I}
+use Rattle.rfc1321.specs.Rounds.{I}
 use Rattle.rounds.proofs.Fours.{four-turns}
 use Rattle.rounds.proofs.operations.four_i.Statement.{statement}
 use Rattle.rounds.proofs.operations.four_i.Tie as tie

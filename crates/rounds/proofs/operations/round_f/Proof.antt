@@ -1,6 +1,6 @@
 -- `round_f` meets its promise: four times four turns.
 use borrow.Author.Needs.{needs}
-use Rattle.rounds.specs.Rounds.{F, round1}
+use Rattle.rfc1321.specs.Rounds.{F, round1}
 use Rattle.rounds.proofs.Fours.{sixteen-turns}
 use Rattle.rounds.proofs.operations.round_f.Statement.{statement}
 use Rattle.rounds.proofs.operations.round_f.Tie as tie

@@ -1,6 +1,6 @@
 -- `round_g` meets its promise: four times four turns.
 use borrow.Author.Needs.{needs}
-use Rattle.rounds.specs.Rounds.{G, round2}
+use Rattle.rfc1321.specs.Rounds.{G, round2}
 use Rattle.rounds.proofs.Fours.{sixteen-turns}
 use Rattle.rounds.proofs.operations.round_g.Statement.{statement}
 use Rattle.rounds.proofs.operations.round_g.Tie as tie

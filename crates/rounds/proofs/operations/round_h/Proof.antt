@@ -1,6 +1,6 @@
 -- `round_h` meets its promise: four times four turns.
 use borrow.Author.Needs.{needs}
-use Rattle.rounds.specs.Rounds.{H, round3}
+use Rattle.rfc1321.specs.Rounds.{H, round3}
 use Rattle.rounds.proofs.Fours.{sixteen-turns}
 use Rattle.rounds.proofs.operations.round_h.Statement.{statement}
 use Rattle.rounds.proofs.operations.round_h.Tie as tie

@@ -1,6 +1,6 @@
 -- `round_i` meets its promise: four times four turns.
 use borrow.Author.Needs.{needs}
-use Rattle.rounds.specs.Rounds.{I, round4}
+use Rattle.rfc1321.specs.Rounds.{I, round4}
 use Rattle.rounds.proofs.Fours.{sixteen-turns}
 use Rattle.rounds.proofs.operations.round_i.Statement.{statement}
 use Rattle.rounds.proofs.operations.round_i.Tie as tie

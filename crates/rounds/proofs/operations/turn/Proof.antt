@@ -2,7 +2,7 @@
 use Prim.Native.Nat.{ℕ}
 use mathlib.Core.Path.{_≡_, ap, _∙_}
 use borrow.Author.Needs.{needs}
-use Rattle.rounds.specs.Rounds.{add, rotated}
+use Rattle.rfc1321.specs.Rounds.{add, rotated}
 use Rattle.rounds.specs.Turns.{turn}
 use Rattle.rounds.proofs.operations.turn.Statement.{statement}
 use Rattle.rounds.proofs.operations.turn.Tie as tie

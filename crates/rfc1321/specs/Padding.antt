@@ -5,7 +5,7 @@ use mathlib.Core.Bool.{cond}
 use mathlib.Core.List.{List}
 use lib.Dec.{ltb, eqb}
 use lib.ListN.{length, getD}
-use Rattle.block.specs.Lists.{upTo}
+use Rattle.rfc1321.specs.Lists.{upTo}
 
 -- "low-order byte first", or the high-order byte first
 pub data Order : Type 0 where

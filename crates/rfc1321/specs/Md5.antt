@@ -2,9 +2,9 @@
 use Prim.Native.Nat.{ℕ, _/_, _%_}
 use mathlib.Core.List.{List, [], _∷_, _++_}
 use lib.ListN.{length}
-use Rattle.block.specs.Padding.{little, blocks, absorbed}
-use Rattle.rounds.specs.declared.State.{State}
-use Rattle.rounds.specs.Rounds.{compressed}
+use Rattle.rfc1321.specs.Padding.{little, blocks, absorbed}
+use Rattle.rfc1321.specs.declared.State.{State}
+use Rattle.rfc1321.specs.Rounds.{compressed}
 
 -- 3.3: the registers at the start
 abbrev pub initial : State

@@ -1,10 +1,10 @@
 // The fold of a digest.
 ghost use mathlib.Core.Path.{_≡_};
 ghost use mathlib.Core.List.{_++_};
-ghost use Rattle.md5.specs.Md5 as Md5;
+ghost use Rattle.rfc1321.specs.Md5 as Md5;
 ghost use Rattle.password.specs.Password as spec;
-ghost use Rattle.password.specs.Inside.{high4};
-use rounds::State;
+ghost use Rattle.chain.specs.Inside.{high4};
+use rfc1321::State;
 
 // A register's four bytes as a number, first byte most significant. MD5 writes the low-order byte first.
 fn read_high(x: u32) -> u64

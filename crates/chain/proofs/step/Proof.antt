@@ -4,12 +4,12 @@ use mathlib.Core.Path.{_≡_, ap, ap₂, _∙_}
 use mathlib.Core.List.{List, _++_}
 use borrow.Author.Needs.{needs}
 use native.Mathlib.Omega.{arith}
-use Rattle.md5.specs.Md5.{md5, bytes4, registers}
+use Rattle.rfc1321.specs.Md5.{md5, bytes4, registers}
 use Rattle.md5.specs.Laws.{bytes4-word}
 use Rattle.password.specs.Password.{hash}
-use Rattle.password.proofs.Folded.{foldedOf}
-use Rattle.password.proofs.hash.step.Statement.{statement}
-use Rattle.password.proofs.hash.step.Tie as tie
+use Rattle.chain.proofs.Folded.{foldedOf}
+use Rattle.chain.proofs.step.Statement.{statement}
+use Rattle.chain.proofs.step.Tie as tie
 
 byte : (n : ℕ) → n % 256 < 256
 byte n = omega arith

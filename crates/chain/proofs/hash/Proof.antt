@@ -1,11 +1,11 @@
 -- `hash` meets its promise: the digest is the registers' bytes.
 use mathlib.Core.Path.{ap, _∙_}
 use borrow.Author.Needs.{needs}
-use Rattle.md5.specs.Md5.{md5}
+use Rattle.rfc1321.specs.Md5.{md5}
 use Rattle.password.specs.Password.{hash}
-use Rattle.password.proofs.Folded.{foldedOf}
-use Rattle.password.proofs.hash.hash.Statement.{statement}
-use Rattle.password.proofs.hash.hash.Tie as tie
+use Rattle.chain.proofs.Folded.{foldedOf}
+use Rattle.chain.proofs.hash.Statement.{statement}
+use Rattle.chain.proofs.hash.Tie as tie
 
 returns : tie.Need-returns
 unfolding hash md5

@@ -2,9 +2,9 @@
 use mathlib.Core.Path.{sym, ap₂, _∙_}
 use Prim.Native.Nat.{ℕ, _+_, _*_}
 use borrow.Author.Needs.{needs}
-use Rattle.password.proofs.Folded.{fold-registers}
-use Rattle.password.proofs.fold.folded.Statement.{statement}
-use Rattle.password.proofs.fold.folded.Tie as tie
+use Rattle.chain.proofs.Folded.{fold-registers}
+use Rattle.chain.proofs.fold.folded.Statement.{statement}
+use Rattle.chain.proofs.fold.folded.Tie as tie
 
 pub folded-spec : {M : Type 1} → statement M
 folded-spec =

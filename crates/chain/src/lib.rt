@@ -2,11 +2,14 @@
 ghost use mathlib.Core.Path.{_≡_};
 ghost use Prim.Native.Nat.{_≤_, _<_};
 ghost use lib.ListN.{length};
-ghost use Rattle.block.specs.Padding.{word, little};
+ghost use Rattle.rfc1321.specs.Padding.{word, little};
 ghost use Rattle.password.specs.Password as spec;
 use crate::fold::folded;
 use md5::compress::compress_eight;
 use md5::compress::registers;
+
+// The fold of a digest.
+mod fold;
 
 // The folded hash of a message.
 pub fn hash(m: &[u8]) -> u64

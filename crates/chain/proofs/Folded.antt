@@ -3,12 +3,12 @@ use Prim.Native.Nat.{ℕ, _+_, _*_, _/_, _%_, _^_}
 use mathlib.Core.Path.{_≡_, sym, ap, ap₂, _∙_}
 use mathlib.Core.List.{_++_}
 use lib.Bits.{bitXor, xor-shr, xor-mod}
-use Rattle.block.specs.Lists.{upTo}
-use Rattle.rounds.specs.declared.State.{State}
-use Rattle.md5.specs.Md5.{bytes4}
+use Rattle.rfc1321.specs.Lists.{upTo}
+use Rattle.rfc1321.specs.declared.State.{State}
+use Rattle.rfc1321.specs.Md5.{bytes4}
 use Rattle.password.specs.Password.{fold, numberOf}
 use Rattle.eight_bytes.specs.Laws.{number-eight}
-use Rattle.password.specs.Inside.{high4}
+use Rattle.chain.specs.Inside.{high4}
 
 -- A byte of an exclusive or is the exclusive or of the bytes.
 byte-xor : (x y k : ℕ) → bitXor (x / 2 ^ k % 2 ^ 8) (y / 2 ^ k % 2 ^ 8) ≡ bitXor x y / 2 ^ k % 2 ^ 8

@@ -3,7 +3,7 @@ use Prim.Native.Nat.{ℕ, zero, suc, _+_, _*_, _-_, _/_, _%_, _^_}
 use mathlib.Core.List.{List, [], _∷_}
 use lib.Bits.{bitAnd, bitOr, bitXor}
 use lib.ListN.{getD}
-use Rattle.rounds.specs.declared.State.{State}
+use Rattle.rfc1321.specs.declared.State.{State}
 
 -- 2: X + Y, modulo 2^32; X <<< s, X's bits shifted left around by s; not(X)
 abbrev pub add : ℕ → ℕ → ℕ

@@ -1,0 +1,2 @@
+-- What the proofs of `chain`'s functions share.
+pub mod Folded

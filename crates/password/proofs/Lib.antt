@@ -1,2 +1,0 @@
--- What the proofs of `password`'s functions share.
-pub mod Folded
