@@ -1,4 +1,5 @@
 // Repeats one call of the login table, for the benchmark: the call's letter, 0, 1 or 3 for 0, 1 or 32 accounts, and how many thousand times.
+use chain::step;
 use counts::Counted;
 use eight_bytes::bytes_of;
 use generator::generate;
@@ -7,7 +8,6 @@ use libc::STDOUT_FILENO;
 use login::calls;
 use login::table::Table;
 use login::table::fresh;
-use chain::step;
 use refusal::Reading;
 
 // The password of document 01's card at that count; the one at count 99 is presented here.

@@ -16,7 +16,7 @@ use panel_rows::written_row;
 pub extern "C" fn lift_read_reply(text: &[u8]) -> LiftReading
     ensures { λ r. ⌜ r ≡ readingRow (readingOf (now (text .entry))) ⌝ }
 {
-    reading_row(reply::read(text))
+    reading_row(reply_reader::read(text))
 }
 
 #[no_mangle]

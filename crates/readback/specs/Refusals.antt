@@ -22,7 +22,7 @@ use Rattle.sixwords.specs.Places.{allPlaces, numberOf as placesNumber}
 use Rattle.hex.specs.Hex.{sixteenDigits, hexReading}
 use Rattle.spelling.specs.Spelling.{sixWordsOf}
 use Rattle.reply.specs.Reading.{isWord, sixWords, upperText, summed, foundAfter, readingOf}
-use Rattle.typed_words.specs.Laws.{spelt-token, six-parts}
+use Rattle.reply.specs.Laws.{spelt-token, six-parts}
 use Rattle.readback.specs.Places.{number-accepted}
 use Rattle.readback.specs.Words.{places-found, found-all}
 use Rattle.readback.specs.Replies.{reads-words, reads-hex, words-accepted}

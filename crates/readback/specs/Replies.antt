@@ -28,7 +28,7 @@ use Rattle.hex.specs.Hex.{hexOf, sixteenDigits, hexReading}
 use Rattle.spelling.specs.Spelling.{spaced, sixWordsOf, wordsOf}
 use Rattle.spelling.specs.Laws.{words-length}
 use Rattle.reply.specs.Reading.{sixWords, upperText, summed, foundAfter, wordsReading, readingOf}
-use Rattle.typed_words.specs.Laws.{six-parts}
+use Rattle.reply.specs.Laws.{six-parts}
 use Rattle.readback.specs.Places.{number-places, number-accepted}
 use Rattle.readback.specs.Words.{places-words, places-upper, places-found, tokens-spaced, found-all, found-password, found-tokens}
 

@@ -21,7 +21,7 @@ use Rattle.sixwords.specs.declared.Number.{Number}
 use Rattle.sixwords.specs.Places.{pairSum, joined, allPlaces, numberOf}
 use Rattle.spelling.specs.Spelling.{spacedFrom}
 use Rattle.reply.specs.Reading.{isWord, upperText, summed, foundAfter}
-use Rattle.typed_words.specs.Laws.{spelt-token}
+use Rattle.reply.specs.Laws.{spelt-token}
 
 -- an accepted number's places are places of the dictionary
 pub number-all : (s : List ℕ) (p : ℕ) → numberOf s ≡ Number.Is p → allPlaces s ≡ true

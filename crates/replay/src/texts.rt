@@ -160,7 +160,7 @@ pub fn answer(call: Call, line: &[u8], given: Given)
         Call::Gen => generate(text(line, given, 0), text(line, given, 1), short(n[2])),
         Call::Words => words(n[0], first(&mut buf, n[1])),
         Call::Hex => hex(n[0], first(&mut buf, n[1])),
-        Call::Read => reading(reply::read(text(line, given, 0))),
+        Call::Read => reading(reply_reader::read(text(line, given, 0))),
         Call::Chal => chal(text(line, given, 0)),
         Call::Wchal => wchal(text(line, given, 0), short(n[1]), first(&mut buf, n[2])),
         Call::Card => card(

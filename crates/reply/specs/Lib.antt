@@ -1,2 +1,4 @@
--- The definition that the promise of `reply` cites.
+-- What a reply says, with worked examples, and laws of tokens that could be words.
 pub mod Reading
+pub mod Examples
+pub mod Laws

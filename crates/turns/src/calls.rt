@@ -19,7 +19,7 @@ use refusal::Checked;
 use refusal::Reading;
 use refusal::Refusal;
 use refusal::Written;
-use reply::read;
+use reply_reader::read;
 use rooms::Account;
 
 // What the port is to answer. The table stays as it is.

@@ -15,7 +15,7 @@ use Rattle.text.specs.Kinds.{isUpper, isLower, isLetter, lowerOf, upperOf}
 use Rattle.text.specs.Tests.{every, second-fails, cases, both}
 use Rattle.dictionary.specs.Dictionary.{numberFrom, packed}
 use Rattle.typed_words.specs.declared.Word.{Word}
-use Rattle.typed_words.specs.Words.{isWord, upperText}
+use Rattle.reply.specs.Reading.{isWord, upperText}
 use Rattle.typed_words.specs.Inside.{packedToken, wordOf}
 
 -- zeros up to three letters

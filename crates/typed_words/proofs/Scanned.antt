@@ -16,7 +16,7 @@ use Rattle.text.specs.Scan.{runOf, tokens, piece}
 use Rattle.text.specs.ScanLaws.{run-within, tokens-white, tokens-run, tokens-none, tokens-some, solid-after}
 use Rattle.typed_words.specs.declared.Word.{Word}
 use Rattle.typed_words.specs.declared.Six.{Six}
-use Rattle.typed_words.specs.Words.{isWord, sixWords}
+use Rattle.reply.specs.Reading.{isWord, sixWords}
 use Rattle.typed_words.specs.Inside.{firstToken, pastToken, packedToken, wordOf, sixOf}
 
 -- the run of solid bytes past the white space is the first token

@@ -8,7 +8,7 @@ use Rattle.text.specs.Scan.{runOf}
 use Rattle.dictionary.specs.Dictionary.{packed}
 use Rattle.typed_words.specs.declared.Word.{Word}
 use Rattle.typed_words.specs.declared.Six.{Six}
-use Rattle.typed_words.specs.Words.{isWord, sixWords, upperText}
+use Rattle.reply.specs.Reading.{isWord, sixWords, upperText}
 
 -- the first token of a text; nothing where there is none
 unfoldable pub firstToken : List ℕ → List ℕ

@@ -1,4 +1,2 @@
--- The definitions that the promise of `typed_words` cites, and their laws.
-pub mod Words
+-- What the functions of `typed_words` answer, packed; what could be words is said in `reply`.
 pub mod Inside
-pub mod Laws

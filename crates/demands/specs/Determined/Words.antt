@@ -12,7 +12,7 @@ use Rattle.spelling.proofs.words_length.Reads as words-length
 use Rattle.spelling.proofs.write_words.Reads as write-words
 use Rattle.typed_words.proofs.six_words.Reads as six-words
 use Rattle.known_words.proofs.read_words.Reads as read-words
-use Rattle.reply.proofs.read.Reads as read
+use Rattle.reply_reader.proofs.read.Reads as read
 use Rattle.demands.specs.Determined.{Answers, AnswersAndLent, left}
 
 pub row-determined : Answers row.Learnt

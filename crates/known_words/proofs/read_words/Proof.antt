@@ -6,7 +6,7 @@ use Prim.Native.Nat.{_≤_, _-_, _+_}
 use native.Mathlib.Omega.{arith}
 use lib.ListN.{length, take, drop, length-set}
 use Rattle.dictionary.specs.Dictionary.{foundOf}
-use Rattle.known_words.specs.Known.{summed, foundAfter}
+use Rattle.reply.specs.Reading.{summed, foundAfter}
 use Rattle.known_words.proofs.Looked.{word-unknown, word-known, words-known}
 use Rattle.known_words.proofs.read_words.Statement.{statement}
 use Rattle.known_words.proofs.read_words.Tie as tie

@@ -8,7 +8,7 @@ use lib.ListN.{length, getD, drop}
 use Rattle.text.specs.Kinds.{isLetter}
 use Rattle.text.specs.Tests.{every}
 use Rattle.dictionary.specs.Dictionary.{numberFrom}
-use Rattle.typed_words.specs.Words.{upperText}
+use Rattle.reply.specs.Reading.{upperText}
 use Rattle.typed_words.proofs.Letters.{none-left-every, none-left-number, letter-grows, four-fit, other-byte, letter-byte, letter-number, letter-upper, empty-other, long-other, mixed-other, letters-word}
 use Rattle.typed_words.proofs.word_of.Statement.{statement}
 use Rattle.typed_words.proofs.word_of.Tie as tie

@@ -14,8 +14,8 @@ use Rattle.dictionary.specs.Dictionary.{foundOf, placeOf}
 use Rattle.dictionary.specs.Laws.{place-packed}
 use Rattle.typed_words.specs.declared.Six.{Six}
 use Rattle.hex.specs.Hex.{hexReading}
 use Rattle.reply.specs.Reading.{isWord, upperText, sixWords, foundAfter, wordsReading, readingOf}
-use Rattle.typed_words.specs.Laws.{spelt-token, six-parts}
+use Rattle.reply.specs.Laws.{spelt-token, six-parts}
 use Rattle.typed_words.specs.Inside.{packedToken, sixOf}
 
 -- the answer of `six_words`

@@ -1,2 +1,0 @@
--- The definitions that the promise of `known_words` cites.
-pub mod Known
