@@ -12,7 +12,8 @@ use Rattle.refusal.specs.declared.Checked.{Checked}
 use Rattle.refusal.specs.declared.Written.{Written}
 use Rattle.refusal.specs.Checks.{unless}
 use Rattle.text.specs.Front.{Put, writtenOf, leaves}
-use Rattle.cards.specs.Cards.{cardChecked, cardOf, cardWritten}
+use Rattle.card_checks.specs.Checks.{cardChecked}
+use Rattle.cards.specs.Cards.{cardOf, cardWritten}
 use Rattle.card_answers.specs.Answers.{firstLine, keptLine, pastLine, linesAsked, refusedText, printed, printedCard, answerOf}
 use Rattle.cards.specs.Laws.{largest-card}
 

@@ -11,7 +11,8 @@ use Rattle.refusal.specs.Numbers.{listingOf}
 use Rattle.text.specs.Digits.{numberOf}
 use Rattle.text.specs.Quoted.{codes}
 use Rattle.counts.specs.Counts.{isCount, decimalOf}
-use Rattle.cards.specs.Cards.{cardChecked, cardOf}
+use Rattle.card_checks.specs.Checks.{cardChecked}
+use Rattle.cards.specs.Cards.{cardOf}
 
 -- "Each newline is kept for the challenge and dropped for the others; a missing line is empty": the first line of a
 -- text without its newline, the same with it, and what follows

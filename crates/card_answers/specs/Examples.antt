@@ -19,7 +19,8 @@ use Rattle.spelling.specs.Spelling.{spacedFrom}
 use Rattle.counts.specs.Counts.{isCount}
 use Rattle.challenge.specs.Challenges.{opening, algorithm, tokenAt, nextAt, countAt, seedAt, challengeOf}
 use Rattle.card_lines.specs.Lines.{lineOf, cardText}
-use Rattle.cards.specs.Cards.{cardChecked, cardOf}
+use Rattle.card_checks.specs.Checks.{cardChecked}
+use Rattle.cards.specs.Cards.{cardOf}
 use Rattle.card_answers.specs.Answers.{linesAsked, refusedText, printedCard, answerOf}
 
 -- lines with a newline after each

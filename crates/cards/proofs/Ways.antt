@@ -1,61 +1,57 @@
--- The card writer's answers, one for each way through its checks, and the card's text from the walked passwords.
-use Prim.Native.Nat.{ℕ, _+_, _-_, _≤_, _<_}
-use mathlib.Core.Path.{_≡_, refl, sym, _∙_, ap, ap₂}
-use mathlib.Core.Bool.{Bool, true, false, _&&_}
+-- The card writer's answers by what the checks find, and the card's text from the walked passwords.
+use Prim.Native.Nat.{ℕ, _+_, _-_, _≤_}
+use mathlib.Core.Path.{_≡_, refl, sym, _∙_, ap}
 use mathlib.Core.List.{List}
 use native.Mathlib.Omega.{arith}
-use lib.Dec.{leb}
-use lib.ListN.{length}
 use Rattle.refusal.specs.declared.Refusal.{Refusal}
 use Rattle.refusal.specs.declared.Checked.{Checked}
 use Rattle.refusal.specs.declared.Reading.{Reading}
 use Rattle.refusal.specs.declared.Written.{Written}
-use Rattle.text.specs.Front.{writtenOf, leaves, Writes}
-use Rattle.inputs.specs.Checks.{phraseChecked, seedChecked}
+use Rattle.text.specs.Front.{writtenOf}
 use Rattle.password.specs.Password.{Algorithm, password, generated}
 use Rattle.password.specs.Laws.{generated-good}
-use Rattle.challenge.specs.declared.reading.Challenge.{Challenge}
 use Rattle.challenge.specs.Challenges.{challengeOf, seedOf}
 use Rattle.challenge.specs.Laws.{read-seed-good, read-count-low}
 use Rattle.card_lines.specs.Lines.{cardText, at}
 use Rattle.card_lines.specs.Laws.{card-same}
-use Rattle.cards.specs.Cards.{countOf, cardChecked, cardOf, cardWritten}
+use Rattle.card_checks.specs.Checks.{countOf, cardChecked}
+use Rattle.card_checks.specs.Laws.{is-read, checks-good, card-bounds}
+use Rattle.cards.specs.Cards.{cardOf, cardWritten}
 use Rattle.cards.specs.Inside.{Falling}
-use Rattle.cards.specs.Laws.{lines-good}
 
-module _ (phrase challenge : List ℕ) (k room : ℕ) where
-  pub refused-phrase : (why : Refusal) → phraseChecked phrase ≡ Checked.Refused why → Written.Refused why ≡ cardWritten phrase challenge k room
-  unfolding cardWritten cardChecked
-  refused-phrase why e = rw e
+-- the passwords of the walk make the lines
+pub walked : (phrase seed ps : List ℕ) (n k : ℕ) → 1 ≤ k → k ≤ n → Falling (password Algorithm.md5 phrase seed (n - (k - 1))) k ps
+    → cardText (at ps n) n k ≡ cardText (password Algorithm.md5 phrase seed) n k
+walked phrase seed ps n k low high w =
+    card-same (at ps n) (password Algorithm.md5 phrase seed) k n high
+    (λ count a b.
+    let same : n - (k - 1) + (k - 1 - (n - count)) ≡ count = omega arith in
+    w phrase seed (n - (k - 1)) refl (n - count) (omega arith) ∙ ap (password Algorithm.md5 phrase seed) same)
 
-  module _ (e : phraseChecked phrase ≡ Checked.Good) where
-    pub refused-challenge : (why : Refusal) → challengeOf challenge ≡ Challenge.Refused why → Written.Refused why ≡ cardWritten phrase challenge k room
-    unfolding cardWritten cardChecked
-    refused-challenge why f = rw (e, f)
+module _ (phrase challenge : List ℕ) (k : ℕ) where
+  pub refused : (room : ℕ) (why : Refusal) → cardChecked phrase challenge k ≡ Checked.Refused why → Written.Refused why ≡ cardWritten phrase challenge k room
+  unfolding cardWritten
+  refused room why e = rw e
 
-    module _ (n s l u : ℕ) (f : challengeOf challenge ≡ Challenge.Read n s l u) where
-      pub refused-lines : (leb 1 k && leb k 99 && leb k n) ≡ false → Written.Refused Refusal.LinesOutside ≡ cardWritten phrase challenge k room
-      unfolding cardWritten cardChecked
-      refused-lines g = rw (e, f, g)
+  module _ (e : cardChecked phrase challenge k ≡ Checked.Good) where
+    pub written : (room : ℕ) → cardWritten phrase challenge k room ≡ writtenOf room (cardOf phrase challenge k)
+    unfolding cardWritten
+    written room = rw e
 
-      module _ (g : (leb 1 k && leb k 99 && leb k n) ≡ true) where
-        -- the generator's answer at the lowest count
-        pub lowest : (seed : List ℕ) → seed ≡ seedOf challenge → generated Algorithm.md5 phrase seed (n - (k - 1)) ≡ Reading.Password (password Algorithm.md5 phrase (seedOf challenge) (n - (k - 1)))
-        lowest seed p =
-            ap (λ (t : List ℕ). generated Algorithm.md5 phrase t (n - (k - 1))) p
-            ∙ generated-good Algorithm.md5 phrase (seedOf challenge) (n - (k - 1)) e (read-seed-good n s l u challenge f) (omega (arith, read-count-low n s l u challenge f))
+    pub bounds : (n : ℕ) → n ≡ countOf (challengeOf challenge) → (1 ≤ k) × (k ≤ 99) × (k ≤ n)
+    bounds n p = let b = card-bounds phrase challenge k e in (b .0, b .1, omega (arith, b .2))
 
-        -- the passwords of the walk make the card
-        pub walked : (ps : List ℕ) → Falling (password Algorithm.md5 phrase (seedOf challenge) (n - (k - 1))) k ps → cardText (at ps n) n k ≡ cardOf phrase challenge k
-        unfolding cardOf
-        walked ps w =
-            let good = lines-good k n g in
-            card-same (at ps n) (password Algorithm.md5 phrase (seedOf challenge)) k n (good .2)
-            (λ count a b.
-            let same : n - (k - 1) + (k - 1 - (n - count)) ≡ count = omega arith in
-            w phrase (seedOf challenge) (n - (k - 1)) refl (n - count) (omega arith) ∙ ap (password Algorithm.md5 phrase (seedOf challenge)) same)
-            ∙ ap (λ (c : Challenge). cardText (password Algorithm.md5 phrase (seedOf challenge)) (countOf c) k) (sym f)
+    -- the generator's answer at a count of the card
+    pub generated-at : (m : ℕ) → m ≤ countOf (challengeOf challenge)
+        → generated Algorithm.md5 phrase (seedOf challenge) m ≡ Reading.Password (password Algorithm.md5 phrase (seedOf challenge) m)
+    generated-at m h =
+        let checks = checks-good phrase challenge k e in
+        let read = is-read (challengeOf challenge) (checks .1) in
+        let low = read-count-low (read .0) (read .1) (read .2) (read .3) challenge (read .4) in
+        let same = ap countOf (read .4) in
+        generated-good Algorithm.md5 phrase (seedOf challenge) m (checks .0)
+        (read-seed-good (read .0) (read .1) (read .2) (read .3) challenge (read .4)) (omega (arith, low, same))
 
-        pub written : cardWritten phrase challenge k room ≡ writtenOf room (cardOf phrase challenge k)
-        unfolding cardWritten cardChecked
-        written = rw (e, f, g)
+  pub card-from : (n : ℕ) → n ≡ countOf (challengeOf challenge) → cardText (password Algorithm.md5 phrase (seedOf challenge)) n k ≡ cardOf phrase challenge k
+  unfolding cardOf
+  card-from n p = ap (λ (m : ℕ). cardText (password Algorithm.md5 phrase (seedOf challenge)) m k) p

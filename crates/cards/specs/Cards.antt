@@ -1,43 +1,19 @@
 -- 01, The card.
 use Prim.Native.Nat.{ℕ}
-use mathlib.Core.Bool.{_&&_}
 use mathlib.Core.List.{List}
-use lib.Dec.{leb}
-use Rattle.refusal.specs.declared.Refusal.{Refusal}
-use Rattle.refusal.specs.declared.Checked.{Checked}
 use Rattle.refusal.specs.declared.Written.{Written}
-use Rattle.refusal.specs.Checks.{unless, must}
+use Rattle.refusal.specs.Checks.{unless}
 use Rattle.text.specs.Front.{writtenOf}
-use Rattle.inputs.specs.Checks.{phraseChecked}
 use Rattle.password.specs.Password.{Algorithm, password}
-use Rattle.challenge.specs.declared.reading.Challenge.{Challenge}
 use Rattle.challenge.specs.Challenges.{challengeOf, seedOf}
 use Rattle.card_lines.specs.Lines.{cardText}
-
--- what is wrong with a challenge, and the count that it says
-abbrev pub challengeChecked : Challenge → Checked
-challengeChecked (Challenge.Read count start len used) = Checked.Good
-challengeChecked (Challenge.Refused why) = Checked.Refused why
-
-abbrev pub countOf : Challenge → ℕ
-countOf (Challenge.Read count start len used) = count
-countOf (Challenge.Refused why) = 0
-
--- 70: "card lines not 1 to 99 or more than the count"
-abbrev pub linesChecked : ℕ → ℕ → Checked
-linesChecked k n = must (leb 1 k && leb k 99 && leb k n) Refusal.LinesOutside
-
--- "Order: 10, 11, 20 to 25, 70", and 40 after these
-unfoldable pub cardChecked : List ℕ → List ℕ → ℕ → Checked
-cardChecked phrase challenge k =
-    unless Checked.Refused (phraseChecked phrase)
-    (unless Checked.Refused (challengeChecked (challengeOf challenge))
-    (linesChecked k (countOf (challengeOf challenge))))
+use Rattle.card_checks.specs.Checks.{countOf, cardChecked}
 
 -- the card of a pass-phrase and a challenge
 unfoldable pub cardOf : List ℕ → List ℕ → ℕ → List ℕ
 cardOf phrase challenge k = cardText (password Algorithm.md5 phrase (seedOf challenge)) (countOf (challengeOf challenge)) k
 
+-- the checks, and then 40
 unfoldable pub cardWritten : List ℕ → List ℕ → ℕ → ℕ → Written
 cardWritten phrase challenge k room =
     unless Written.Refused (cardChecked phrase challenge k) (writtenOf room (cardOf phrase challenge k))

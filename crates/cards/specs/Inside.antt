@@ -1,12 +1,21 @@
--- Nothing outside this crate rests on this: what its private functions promise.
+-- Nothing outside this crate rests on these: what its private functions promise.
 use Prim.Native.Nat.{ℕ, _+_, _-_, _<_}
 use mathlib.Core.Path.{_≡_}
 use mathlib.Core.List.{List}
 use lib.ListN.{getD}
+use Rattle.refusal.specs.declared.Written.{Written}
+use Rattle.text.specs.Front.{Writes}
 use Rattle.password.specs.Password.{Algorithm, password}
+use Rattle.card_lines.specs.Lines.{cardText}
 
 -- ps starts with k passwords in falling count, the last of them p
 abbrev pub Falling : ℕ → ℕ → List ℕ → Type 0
 Falling p k ps =
     (phrase seed : List ℕ) (low : ℕ) → p ≡ password Algorithm.md5 phrase seed low
     → (i : ℕ) → i < k → getD ps i 0 ≡ password Algorithm.md5 phrase seed (low + (k - 1 - i))
+
+-- k lines were written, the first for the count n and the last with the password p
+abbrev pub Walked : ℕ → ℕ → ℕ → List ℕ → List ℕ → Written → Type 0
+Walked p n k b b′ r =
+    (phrase seed : List ℕ) → p ≡ password Algorithm.md5 phrase seed (n - (k - 1))
+    → Writes (cardText (password Algorithm.md5 phrase seed) n k) b b′ r

@@ -25,7 +25,8 @@ use Rattle.spelling.specs.Spelling.{sixWordsOf, wordsOf}
 use Rattle.reply.specs.Reading.{sixWords, upperText, readingOf}
 use Rattle.readback.specs.Replies as Laws
 use Rattle.card_lines.specs.Lines.{cardText}
-use Rattle.cards.specs.Cards.{countOf, cardChecked, cardOf}
+use Rattle.card_checks.specs.Checks.{countOf, cardChecked}
+use Rattle.cards.specs.Cards.{cardOf}
 use Rattle.readback.specs.Cards as CardLaws
 use Rattle.password.specs.Bounds.{password-bound}
 

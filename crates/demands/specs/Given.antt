@@ -24,7 +24,8 @@ use Rattle.text.specs.Tests.{same}
 use Rattle.hex.specs.Hex.{hexOf}
 use Rattle.hex.specs.Hex.{sixteenDigits, hexReading}
 use Rattle.reply.specs.Reading.{isWord, sixWords, foundAfter, readingOf}
-use Rattle.cards.specs.Cards.{cardChecked, cardWritten}
+use Rattle.card_checks.specs.Checks.{cardChecked}
+use Rattle.cards.specs.Cards.{cardWritten}
 use Rattle.line.specs.Line.{some, joined, others, turnWithout, without}
 use Rattle.rooms.specs.Rooms.{placeOf}
 use Rattle.controller.specs.Steps.{enrolChecked, enrol, remove, joinChecked, join, leaveChecked, leave, turnChecked, challenge, offered, replyRead, reply, renewChecked, renewRead, renew}

@@ -30,7 +30,8 @@ use Rattle.challenge.specs.Challenges.{opening, algorithm, tokenAt, endOf, coun
 use Rattle.text.specs.Tests.{same}
 use Rattle.hex.specs.Hex.{sixteenDigits, hexReading}
 use Rattle.reply.specs.Reading.{sixWords, upperText, summed, foundAfter, readingOf}
-use Rattle.cards.specs.Cards.{challengeChecked, countOf, linesChecked, cardChecked, cardOf, cardWritten}
+use Rattle.card_checks.specs.Checks.{challengeChecked, countOf, linesChecked, cardChecked}
+use Rattle.cards.specs.Cards.{cardOf, cardWritten}
 use Rattle.line.specs.Line.{standsIn}
 use Rattle.controller.specs.declared.Replied.{Replied}
 use Rattle.rooms.specs.Rooms.{Room, holds}

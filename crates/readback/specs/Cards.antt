@@ -16,8 +16,9 @@ use Rattle.challenge.specs.Challenges.{challengeOf, seedOf}
 use Rattle.challenge.specs.Laws.{read-seed-good, read-count-low}
 use Rattle.card_lines.specs.Lines.{lineOf, cardText}
 use Rattle.card_lines.specs.Laws.{card-line}
-use Rattle.cards.specs.Cards.{countOf, cardChecked, cardOf}
-use Rattle.cards.specs.Laws.{is-read, checks-good}
+use Rattle.card_checks.specs.Checks.{countOf, cardChecked}
+use Rattle.card_checks.specs.Laws.{is-read, checks-good}
+use Rattle.cards.specs.Cards.{cardOf}
 use Rattle.readback.specs.Replies.{hex-written-read, words-written-read}
 
 module _ (phrase challenge : List ℕ) (k : ℕ) (e : cardChecked phrase challenge k ≡ Checked.Good) where

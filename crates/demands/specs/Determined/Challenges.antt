@@ -8,6 +8,7 @@ use Rattle.challenge.proofs.reading.read.Reads as read
 use Rattle.challenge.proofs.reading.seed_of.Reads as seed-of
 use Rattle.challenge_writer.proofs.write.Reads as write
 use Rattle.card_lines.proofs.write_lines.Reads as write-lines
+use Rattle.card_checks.proofs.count_asked.Reads as count-asked
 use Rattle.cards.proofs.writing.write_card.Reads as write-card
 use Rattle.card_answers.proofs.answer.Reads as answer
 use Rattle.demands.specs.Determined.{Answers, AnswersSeen, AnswersAndLent, both, left}
@@ -39,6 +40,9 @@ write-determined k a y z e f p q = left _ _ p q
 
 pub write-lines-determined : AnswersAndLent write-lines.Learnt (λ k e. now (e .1 .1 .1 .0))
 write-lines-determined k a y z e f p q = left _ _ p q
+
+pub count-asked-determined : Answers count-asked.Learnt
+count-asked-determined k a y z e f p q = p ∙ sym q
 
 pub write-card-determined : AnswersAndLent write-card.Learnt (λ k e. now (e .1 .1 .1 .0))
 write-card-determined k a y z e f p q = left _ _ p q
