@@ -10,7 +10,7 @@ use Rattle.replay.proofs.words.read.Statement.{statement}
 use Rattle.replay.proofs.words.read.Tie as tie
 
 abbrev Inv-loop : tie.InvT-loop
-Inv-loop line₀ name-end kinds starts₀ ends₀ numbers₀ n at₀ k₀ line starts ends numbers at k =
+Inv-loop line₀ name-end call starts₀ ends₀ numbers₀ n at₀ k₀ line starts ends numbers at k =
     (k ≤ n)
     × (n ≤ 5)
     × (length line ≡ length line₀)
@@ -21,7 +21,7 @@ Inv-loop line₀ name-end kinds starts₀ ends₀ numbers₀ n at₀ k₀ line s
     × Inside starts ends (length line₀)
 
 abbrev μ-loop : tie.MeasureT-loop
-μ-loop line₀ name-end kinds starts₀ ends₀ numbers₀ n at₀ k₀ line starts ends numbers at k = n - k
+μ-loop line₀ name-end call starts₀ ends₀ numbers₀ n at₀ k₀ line starts ends numbers at k = n - k
 
 -- the line after a word of it was lent
 whole : (v : tie.After-word-of Inv-loop μ-loop) →
