@@ -1,7 +1,6 @@
 // Answers replay lines: a call a line on standard input, an answer a line on standard output. All of the input is
 // read before the first call. An input of more than 1 MiB is answered by one line, `bad`, and none of its calls is run.
-ghost use Prim.Native.Nat.{_≤_, _<_};
-ghost use lib.ListN.{length};
+ghost use Prim.Native.Nat.{_<_};
 use libc::STDIN_FILENO;
 use login::table::Table;
 
@@ -30,11 +29,17 @@ fn is_passed(line: &[u8]) -> bool {
     line[0] == b'#'
 }
 
-// Answers a call whose name ends at a place, and hands back the table after it.
-fn answer_call(line: &mut [u8], end: usize, call: usize, table: Table) -> Table
-    requires { ⌜ (end ≤ length (now line)) × (call < 19) ⌝ }
+// The number of the call that a line names.
+fn call_in(line: &[u8]) -> usize {
+    let end = words::end_of(line, 0);
+    calls::call_of(&line[..end])
+}
+
+// Answers a call, and hands back the table after it.
+fn answer_call(line: &mut [u8], call: usize, table: Table) -> Table
+    requires { ⌜ call < 19 ⌝ }
 {
-    let given = words::read(line, end, call);
+    let given = words::read(line, call);
     if !given.good {
         printing::bad();
         return table;
@@ -51,13 +56,12 @@ fn answer(line: &mut [u8], table: Table) -> Table {
     if is_passed(line) {
         return table;
     }
-    let end = words::end_of(line, 0);
-    let call = calls::call_of(&line[..end]);
+    let call = call_in(line);
     if 18 < call {
         printing::bad();
         return table;
     }
-    answer_call(line, end, call, table)
+    answer_call(line, call, table)
 }
 
 // Answers each line in turn. The last one may lack its newline.

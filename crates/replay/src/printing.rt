@@ -3,7 +3,9 @@ ghost use Prim.Native.Nat.{_≤_};
 ghost use lib.ListN.{length};
 use crate::lending::is_untouched;
 use libc::STDOUT_FILENO;
+use login::table::Replied;
 use put::spell;
+use refusal::Checked;
 use refusal::Reading;
 use refusal::Refusal;
 use refusal::Written;
@@ -43,13 +45,6 @@ pub fn good() {
 
 pub fn ok() {
     good();
-    byte(b'\n');
-}
-
-// The new count, after a reply or a renewal.
-pub fn accepted(count: u64) {
-    good();
-    after_space(count);
     byte(b'\n');
 }
 
@@ -98,6 +93,25 @@ pub fn no(why: Refusal) {
 pub fn refused(why: Refusal) {
     no(why);
     byte(b'\n');
+}
+
+pub fn checked(result: Checked) {
+    match result {
+        Checked::Good => ok(),
+        Checked::Refused(why) => refused(why),
+    }
+}
+
+// The new count, after a reply or a renewal.
+pub fn replied(result: Replied) {
+    match result {
+        Replied::Accepted(count) => {
+            good();
+            after_space(count as u64);
+            byte(b'\n');
+        }
+        Replied::Refused(why) => refused(why),
+    }
 }
 
 pub fn reading(result: Reading) {

@@ -4,9 +4,9 @@ ghost use Rattle.replay.specs.Words.{Within};
 use crate::dump::dump;
 use crate::lending::filled;
 use crate::lending::first;
-use crate::printing::accepted;
+use crate::printing::checked;
 use crate::printing::ok;
-use crate::printing::refused;
+use crate::printing::replied;
 use crate::printing::written;
 use crate::words::Given;
 use crate::words::number;
@@ -15,26 +15,18 @@ use crate::words::short;
 use crate::words::text;
 use eight_bytes::bytes_of;
 use login::table::Answered;
-use login::table::Replied;
 use login::table::Settled;
 use login::table::Table;
-use refusal::Checked;
 
 fn settled(result: Settled) -> Table {
     let answer = result.answer;
-    match answer {
-        Checked::Good => ok(),
-        Checked::Refused(why) => refused(why),
-    }
+    checked(answer);
     result.table
 }
 
 fn answered(result: Answered) -> Table {
     let answer = result.answer;
-    match answer {
-        Replied::Accepted(count) => accepted(count as u64),
-        Replied::Refused(why) => refused(why),
-    }
+    replied(answer);
     result.table
 }
 

@@ -121,16 +121,16 @@ fn count(call: usize) -> usize
     n
 }
 
-// What the words after the name say, which ends at a place. The bytes of texts take the place of their digits.
-pub fn read(line: &mut [u8], name_end: usize, call: usize) -> Given
-    requires { ⌜ («name_end» ≤ length (now line)) × (call < 19) ⌝ }
+// What the words after the name say. The bytes of texts take the place of their digits.
+pub fn read(line: &mut [u8], call: usize) -> Given
+    requires { ⌜ call < 19 ⌝ }
     ensures { λ r. ⌜ Within r (length (now (line .entry))) ⌝ }
 {
     let mut starts = [0usize; 5];
     let mut ends = [0usize; 5];
     let mut numbers = [0u64; 5];
     let n = count(call);
-    let mut at = name_end;
+    let mut at = end_of(line, 0);
     let mut k = 0;
     while k < n {
         if line.len() <= at {
