@@ -11,7 +11,7 @@ import time
 sys.dont_write_bytecode = True
 
 import harness  # noqa: E402
-from sections import cards, challenges, day, docs, paper, passwords, promises, replay, replies, selftest  # noqa: E402
+from sections import cards, challenges, docs, paper, passwords, promises, replay, replies, selftest  # noqa: E402
 
 SECTIONS = [
     ("comparison can fail", selftest.comparison_can_fail),
@@ -31,7 +31,6 @@ SECTIONS = [
     ("cards of every length", cards.cards_of_every_length),
     ("cards at random", cards.cards_at_random),
     ("program card", cards.program),
-    ("the day at a controller", day.stored_output),
     ("program replay on the recorded scripts", replay.recorded),
     ("program replay's stored script", replay.stored),
     ("program replay on its inputs", replay.inputs),

@@ -1,15 +1,16 @@
 // The table on a line: accounts by rising id, ports, the line, the turn.
 ghost use Prim.Native.Nat.{_<_};
+use crate::printing::byte;
 use crate::printing::bytes;
+use crate::printing::good;
 use crate::printing::number;
 use crate::printing::password;
-use crate::printing::say;
 use login::table::Table;
 
 // A comma before each entry of a list but the first.
 fn comma(k: usize) {
     if 0 < k {
-        say(b",");
+        byte(b',');
     }
 }
 
@@ -17,7 +18,7 @@ fn comma(k: usize) {
 fn pair(k: usize, a: u64, b: u64) {
     comma(k);
     number(a);
-    say(b":");
+    byte(b':');
     number(b);
 }
 
@@ -36,12 +37,12 @@ fn account(k: usize, table: Table, at: usize)
     let account = rooms[at];
     comma(k);
     number(account.id as u64);
-    say(b":");
+    byte(b':');
     let kept = account.seed;
     seed(kept, account.len);
-    say(b":");
+    byte(b':');
     number(account.count as u64);
-    say(b":");
+    byte(b':');
     password(account.password);
 }
 
@@ -109,20 +110,28 @@ fn line(table: Table) -> usize {
 // `-` for a list of none.
 fn dash(shown: usize) {
     if shown == 0 {
-        say(b"-");
+        byte(b'-');
     }
 }
 
+// The name of a part of the table.
+fn part(name: u8) {
+    byte(b' ');
+    byte(name);
+    byte(b'=');
+}
+
 pub fn dump(table: Table) -> Table {
-    say(b"ok A=");
+    good();
+    part(b'A');
     dash(accounts(table));
-    say(b" P=");
+    part(b'P');
     ports(table);
-    say(b" L=");
+    part(b'L');
     dash(line(table));
-    say(b" T=");
+    part(b'T');
     let waiting = table.line;
     number(waiting.turn as u64);
-    say(b"\n");
+    byte(b'\n');
     table
 }

@@ -1,8 +1,11 @@
 // Answers replay lines: a call a line on standard input, an answer a line on standard output. All of the input is
 // read before the first call. An input of more than 1 MiB is answered by one line, `bad`, and none of its calls is run.
+ghost use Prim.Native.Nat.{_<_};
 use libc::STDIN_FILENO;
 use login::table::Table;
 
+// The calls by number.
+mod calls;
 // The table on a line.
 mod dump;
 // What a writer is lent.
@@ -18,51 +21,47 @@ mod texts;
 // The words of a line.
 mod words;
 
-// A call that needs no table, one on the table, or none.
-enum Named {
-    Text(texts::Call),
-    Table(tables::Call),
-    Unknown,
-}
-
-fn call_of(name: &[u8]) -> Named {
-    let text = texts::call_of(name);
-    if let texts::Named::Is(call) = text {
-        return Named::Text(call);
-    }
-    let table = tables::call_of(name);
-    if let tables::Named::Is(call) = table {
-        return Named::Table(call);
-    }
-    Named::Unknown
-}
-
-// Answers a line, and hands back the table after it.
-fn answer(line: &mut [u8], table: Table) -> Table {
-    let end = words::end_of(line, 0);
-    match call_of(&line[..end]) {
-        Named::Text(call) => {
-            let given = words::read(line, end, texts::kinds_of(call));
-            texts::answer(call, line, given);
-            table
-        }
-        Named::Table(call) => {
-            let given = words::read(line, end, tables::kinds_of(call));
-            tables::answer(call, line, given, table)
-        }
-        Named::Unknown => {
-            printing::bad();
-            table
-        }
-    }
-}
-
 // Whether a line is passed over: an empty one, and a comment.
 fn is_passed(line: &[u8]) -> bool {
     if line.len() == 0 {
         return true;
     }
     line[0] == b'#'
+}
+
+// The number of the call that a line names.
+fn call_in(line: &[u8]) -> usize {
+    let end = words::end_of(line, 0);
+    calls::call_of(&line[..end])
+}
+
+// Answers a call, and hands back the table after it.
+fn answer_call(line: &mut [u8], call: usize, table: Table) -> Table
+    requires { ⌜ call < 19 ⌝ }
+{
+    let given = words::read(line, call);
+    if !given.good {
+        printing::bad();
+        return table;
+    }
+    if call < 9 {
+        texts::answer(call, line, given);
+        return table;
+    }
+    tables::answer(call, line, given, table)
+}
+
+// Answers a line, if it is not passed over, and hands back the table after it.
+fn answer(line: &mut [u8], table: Table) -> Table {
+    if is_passed(line) {
+        return table;
+    }
+    let call = call_in(line);
+    if 18 < call {
+        printing::bad();
+        return table;
+    }
+    answer_call(line, call, table)
 }
 
 // Answers each line in turn. The last one may lack its newline.
@@ -73,9 +72,6 @@ fn answer_all(input: &mut [u8]) {
         let start = at;
         let end = bytes::scan::find(input, start, input.len(), b'\n');
         at = end + 1;
-        if is_passed(&input[start..end]) {
-            continue;
-        }
         table = answer(&mut input[start..end], table);
     }
 }

@@ -3,7 +3,9 @@ ghost use Prim.Native.Nat.{_≤_};
 ghost use lib.ListN.{length};
 use crate::lending::is_untouched;
 use libc::STDOUT_FILENO;
+use login::table::Replied;
 use put::spell;
+use refusal::Checked;
 use refusal::Reading;
 use refusal::Refusal;
 use refusal::Written;
@@ -21,12 +23,29 @@ pub fn password(p: u64) {
     io::print_hex(STDOUT_FILENO, p, 16);
 }
 
+pub fn byte(b: u8) {
+    let text = [b];
+    say(&text);
+}
+
+// A number after a space.
+pub fn after_space(n: u64) {
+    byte(b' ');
+    number(n);
+}
+
 pub fn bad() {
     say(b"bad\n");
 }
 
+// The first word of an answer that is no refusal.
+pub fn good() {
+    say(b"ok");
+}
+
 pub fn ok() {
-    say(b"ok\n");
+    good();
+    byte(b'\n');
 }
 
 // Up to 256 bytes in hex, and how many they were.
@@ -51,7 +70,7 @@ fn some_bytes(text: &[u8]) -> usize
 // Bytes in hex; `-` where there are none.
 pub fn bytes(text: &[u8]) {
     if text.len() == 0 {
-        say(b"-");
+        byte(b'-');
         return;
     }
     let mut at = 0;
@@ -63,26 +82,45 @@ pub fn bytes(text: &[u8]) {
 // `no` and the paper's number, with 31's place.
 pub fn no(why: Refusal) {
     let listing = refusal::listing_of(why);
-    say(b"no ");
-    number(listing.0 as u64);
+    say(b"no");
+    after_space(listing.0 as u64);
     if listing.1 != 0 {
-        say(b" ");
-        number(listing.1 as u64);
+        after_space(listing.1 as u64);
     }
 }
 
 // A refusal as the whole answer.
 pub fn refused(why: Refusal) {
     no(why);
-    say(b"\n");
+    byte(b'\n');
+}
+
+pub fn checked(result: Checked) {
+    match result {
+        Checked::Good => ok(),
+        Checked::Refused(why) => refused(why),
+    }
+}
+
+// The new count, after a reply or a renewal.
+pub fn replied(result: Replied) {
+    match result {
+        Replied::Accepted(count) => {
+            good();
+            after_space(count as u64);
+            byte(b'\n');
+        }
+        Replied::Refused(why) => refused(why),
+    }
 }
 
 pub fn reading(result: Reading) {
     match result {
         Reading::Password(p) => {
-            say(b"ok ");
+            good();
+            byte(b' ');
             password(p);
-            say(b"\n");
+            byte(b'\n');
         }
         Reading::Refused(why) => refused(why),
     }
@@ -97,21 +135,24 @@ fn clean(rest: &[u8]) {
     }
 }
 
+// What a writer wrote: the first n bytes of the buffer.
+fn wrote(n: usize, buf: &[u8]) {
+    good();
+    after_space(n as u64);
+    byte(b' ');
+    if n <= buf.len() {
+        bytes(&buf[..n]);
+        clean(&buf[n..]);
+    } else {
+        // no writer says that it wrote more than it was lent
+        say(b"- dirty\n");
+    }
+}
+
 // What a writer answered, and what it left in the buffer.
 pub fn written(result: Written, buf: &[u8]) {
     match result {
-        Written::Wrote(n) => {
-            say(b"ok ");
-            number(n as u64);
-            say(b" ");
-            if n <= buf.len() {
-                bytes(&buf[..n]);
-                clean(&buf[n..]);
-            } else {
-                // no writer says that it wrote more than it was lent
-                say(b"- dirty\n");
-            }
-        }
+        Written::Wrote(n) => wrote(n, buf),
         Written::Refused(why) => {
             no(why);
             clean(buf);

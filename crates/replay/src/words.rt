@@ -4,6 +4,7 @@ ghost use Prim.Native.Nat.{ℕ, _+_, _≤_, _<_};
 ghost use lib.ListN.{length, drop};
 ghost use Rattle.bytes.specs.Bytes.{indexOf};
 ghost use Rattle.replay.specs.Words.{ofNumber, ofBytes, wordIn, Within};
+use crate::calls::kind_of;
 use crate::numbers::Bytes;
 use crate::numbers::Number;
 use crate::numbers::number_in;
@@ -105,12 +106,13 @@ fn none() -> Given
 }
 
 // How many words a call takes.
-fn count(kinds: [Kind; 5]) -> usize
+fn count(call: usize) -> usize
+    requires { ⌜ call < 19 ⌝ }
     ensures { λ r. ⌜ r ≤ 5 ⌝ }
 {
     let mut n = 0;
     while n < 5 {
-        let kind = kinds[n];
+        let kind = kind_of(call, n);
         if let Kind::No = kind {
             return n;
         }
@@ -119,16 +121,16 @@ fn count(kinds: [Kind; 5]) -> usize
     n
 }
 
-// What the words after the name say, which ends at a place. The bytes of texts take the place of their digits.
-pub fn read(line: &mut [u8], name_end: usize, kinds: [Kind; 5]) -> Given
-    requires { ⌜ «name_end» ≤ length (now line) ⌝ }
+// What the words after the name say. The bytes of texts take the place of their digits.
+pub fn read(line: &mut [u8], call: usize) -> Given
+    requires { ⌜ call < 19 ⌝ }
     ensures { λ r. ⌜ Within r (length (now (line .entry))) ⌝ }
 {
     let mut starts = [0usize; 5];
     let mut ends = [0usize; 5];
     let mut numbers = [0u64; 5];
-    let n = count(kinds);
-    let mut at = name_end;
+    let n = count(call);
+    let mut at = end_of(line, 0);
     let mut k = 0;
     while k < n {
         if line.len() <= at {
@@ -136,7 +138,7 @@ pub fn read(line: &mut [u8], name_end: usize, kinds: [Kind; 5]) -> Given
         }
         let start = at + 1;
         at = end_of(line, start);
-        let word = word_of(&mut line[start..at], kinds[k]);
+        let word = word_of(&mut line[start..at], kind_of(call, k));
         if !word.good {
             return none();
         }
@@ -164,14 +166,26 @@ pub fn text(line: &[u8], given: Given, k: usize) -> &[u8]
     &line[start..end]
 }
 
+// The number that word k says.
+pub fn number(given: Given, k: usize) -> u64
+    requires { ⌜ k < 5 ⌝ }
+{
+    let numbers = given.numbers;
+    numbers[k]
+}
+
 // A call's numbers are within the limits of their kinds, so each of these hands its number on as it is.
 
 // An id, a count, a number of lines.
-pub fn short(n: u64) -> u16 {
+pub fn short(given: Given, k: usize) -> u16
+    requires { ⌜ k < 5 ⌝ }
+{
+    let n = number(given, k);
     if n < 65536 { n as u16 } else { 65535 }
 }
 
-// A port; those over 255 are refused as 255 is.
-pub fn port(n: u64) -> u8 {
+// A call's port, its first word; those over 255 are refused as 255 is.
+pub fn port(given: Given) -> u8 {
+    let n = number(given, 0);
     if n < 256 { n as u8 } else { 255 }
 }

@@ -8,7 +8,7 @@ use native.Mathlib.Omega.{arith}
 use Rattle.replay.proofs.texts.prog.Statement.{statement}
 use Rattle.replay.proofs.texts.prog.Tie as tie
 
-within : (c : tie.After-say) → c .before .before .answer .result ≤ length (c .before .before .answer .last .1 .0)
+within : (c : tie.After-byte) → c .before .before .answer .result ≤ length (c .before .before .answer .last .1 .0)
 within c =
     let a = c .before .before .answer in
     omega (arith, a .ensures .0, simp length-append at (ap length (a .ensures .1)))
@@ -18,11 +18,10 @@ prog-spec =
     tie.close
     (tie.spec
     (λ c κs. search needs)
-    (λ c. search needs)
+    (λ c κs. search needs)
     (λ c κs. search needs)
     (λ c. within c)
     (λ c. sym (length-take-le _ (c .before .before .before .answer .last .1 .0) (within (c .before))))
     (λ c κs. search needs)
-    (λ c. search needs)
     (λ c κs. search needs)
     (λ c. search needs))

@@ -5,10 +5,10 @@ use Rattle.replay.proofs.words.count.Statement.{statement}
 use Rattle.replay.proofs.words.count.Tie as tie
 
 abbrev Inv-loop : tie.InvT-loop
-Inv-loop kinds n₀ n = n ≤ 5
+Inv-loop call n₀ n = n ≤ 5
 
 abbrev μ-loop : tie.MeasureT-loop
-μ-loop kinds n₀ n = 5 - n
+μ-loop call n₀ n = 5 - n
 
 pub count-spec : {M : Type 1} → statement M
 count-spec =

@@ -10,7 +10,7 @@ use Rattle.replay.proofs.words.read.Statement.{statement}
 use Rattle.replay.proofs.words.read.Tie as tie
 
 abbrev Inv-loop : tie.InvT-loop
-Inv-loop line₀ name-end kinds starts₀ ends₀ numbers₀ n at₀ k₀ line starts ends numbers at k =
+Inv-loop line₀ call starts₀ ends₀ numbers₀ n at₀ k₀ line starts ends numbers at k =
     (k ≤ n)
     × (n ≤ 5)
     × (length line ≡ length line₀)
@@ -21,29 +21,29 @@ Inv-loop line₀ name-end kinds starts₀ ends₀ numbers₀ n at₀ k₀ line s
     × Inside starts ends (length line₀)
 
 abbrev μ-loop : tie.MeasureT-loop
-μ-loop line₀ name-end kinds starts₀ ends₀ numbers₀ n at₀ k₀ line starts ends numbers at k = n - k
+μ-loop line₀ call starts₀ ends₀ numbers₀ n at₀ k₀ line starts ends numbers at k = n - k
 
 -- the line after a word of it was lent
 whole : (v : tie.After-word-of Inv-loop μ-loop) →
     let e = v .before .before .before in
     let at = e .before .before .before .before .loop in
-    let start = e .before .before .before .before .before .before .before in
-    length (putMid (at .at + 1) (e .end-of .result - (at .at + 1)) (at .line) (v .word-of .last .0)) ≡ length (start .args .line .now)
+    let start = e .before .before .before .before .before .before .before .before .before in
+    length (putMid (at .at + 1) (e .end-of2 .result - (at .at + 1)) (at .line) (v .word-of .last .0)) ≡ length (start .args .line .now)
 whole v =
     let e = v .before .before .before in
     let at = e .before .before .before .before .loop in
-    same-len-mid (at .at + 1) (e .end-of .result - (at .at + 1)) (at .line) (v .word-of .last .0) (v .word-of .kept .0) ∙ at .inv .2
+    same-len-mid (at .at + 1) (e .end-of2 .result - (at .at + 1)) (at .line) (v .word-of .last .0) (v .word-of .kept .0) ∙ at .inv .2
 
 -- its bytes stand before its end
 within : (v : tie.After-word-of Inv-loop μ-loop) →
     let e = v .before .before .before in
     let at = e .before .before .before .before .loop in
-    at .at + 1 + v .word-of .result .len ≤ e .end-of .result
+    at .at + 1 + v .word-of .result .len ≤ e .end-of2 .result
 within v =
     let e = v .before .before .before in
     let at = e .before .before .before .before .loop in
-    let ends : e .end-of .result ≤ length (at .line) = e .end-of .ensures .1 in
-    omega (arith, e .end-of .ensures .0, v .word-of .ensures .1, mid-len (at .at + 1) (e .end-of .result) (at .line) ends)
+    let ends : e .end-of2 .result ≤ length (at .line) = e .end-of2 .ensures .1 in
+    omega (arith, e .end-of2 .ensures .0, v .word-of .ensures .1, mid-len (at .at + 1) (e .end-of2 .result) (at .line) ends)
 
 pub read-spec : {M : Type 1} → statement M
 read-spec =
@@ -52,7 +52,8 @@ read-spec =
     Inv-loop
     μ-loop
     (λ c κs. search needs)
-    (λ c. (omega arith, omega arith, refl, omega arith, refl, refl, refl, zeros-inside _))
+    (λ c κs. search needs)
+    (λ c. (omega arith, omega arith, refl, c .end-of .ensures .1, refl, refl, refl, zeros-inside _))
     (λ c κs. search needs)
     (λ c. c .before .before .before .loop .inv .2)
     (λ c. c .none .ensures _)
@@ -81,12 +82,12 @@ read-spec =
       omega arith,
       omega arith,
       whole v,
-      omega (arith, e .end-of .ensures .1),
+      omega (arith, e .end-of2 .ensures .1),
       length-set (at .starts) (at .k) (at .at + 1) ∙ at .inv .4,
       length-set (at .ends) (at .k) (at .at + 1 + v .word-of .result .len) ∙ at .inv .5,
       length-set (at .numbers) (at .k) (v .word-of .result .number) ∙ at .inv .6,
       set-inside (at .starts) (at .ends) (at .k) (at .at + 1) (at .at + 1 + v .word-of .result .len) _ (omega arith) (omega arith) (omega arith)
-          (omega (arith, within v, e .end-of .ensures .1)) (at .inv .7),
+          (omega (arith, within v, e .end-of2 .ensures .1)) (at .inv .7),
     ))
     (λ c. c .before .loop .inv .2)
     (λ c. c .before .loop .inv .7))
