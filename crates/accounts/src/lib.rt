@@ -1,4 +1,5 @@
-// What becomes of an account: new values at Enrol and Renew, a challenge, a reply.
+// What becomes of an account: new values at Enrol and Renew. What an account asks for, and what it becomes with the reply,
+// is in `asked`; the definitions of both are in specs/.
 use refusal::Checked;
 use rooms::Account;
 
@@ -8,9 +9,5 @@ pub struct Proposed {
     pub account: Account,
 }
 
-// Seeds that are kept.
-mod seeds;
 // New values.
 pub mod values;
-// What an account asks for, and what it becomes with the reply.
-pub mod replies;

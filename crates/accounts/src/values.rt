@@ -5,8 +5,6 @@ ghost use lib.ListN.{length};
 ghost use Rattle.rooms.specs.Rooms.{roomOf};
 ghost use Rattle.accounts.specs.Accounts.{newRoom, valuesChecked, proposal, proposed};
 use crate::Proposed;
-use crate::seeds::same_seed;
-use crate::seeds::seed_len;
 use eight_bytes::number_of;
 use inputs::check_seed;
 use inputs::put_lower;
@@ -14,6 +12,8 @@ use refusal::Checked;
 use refusal::Refusal;
 use rooms::Account;
 use rooms::FREE;
+use seeds::same_seed;
+use seeds::seed_len;
 
 fn check_values(present: Account, count: u16, seed: &[u8]) -> Checked
     ensures { λ r. ⌜ r ≡ valuesChecked count (now (seed .entry)) (roomOf present) ⌝ }

@@ -20,15 +20,16 @@ pub enum Replied {
     Refused(Refusal),
 }
 
-// An answer with the table after it.
+// A table with the answer beside it. The table stands first, so that no gap of unused bytes lies before it: the compiler
+// then copies it once less.
 pub struct Settled {
-    pub answer: Checked,
     pub table: Table,
+    pub answer: Checked,
 }
 
 pub struct Answered {
-    pub answer: Replied,
     pub table: Table,
+    pub answer: Replied,
 }
 
 pub fn fresh() -> Table

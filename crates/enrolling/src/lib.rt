@@ -1,84 +1,78 @@
 // The calls that keep accounts: Enrol and Remove.
 ghost use mathlib.Core.Path.{_≡_};
-ghost use mathlib.Core.List.{map};
-ghost use Rattle.rooms.specs.Rooms.{roomOf};
 ghost use Rattle.controller.specs.Table.{view};
 ghost use Rattle.controller.specs.Steps as steps;
-ghost use Rattle.enrolling.specs.Inside.{enrolOrder, enrolFound, there};
+ghost use Rattle.enrolling.specs.Inside.{enrolFound, there};
 use accounts::values::propose;
 use controller::Settled;
 use controller::Table;
 use refusal::Checked;
 use refusal::Refusal;
-use rooms::Account;
 use rooms::FREE;
-use rooms::holds;
-use rooms::put;
+use standing::place_of;
+use standing::put;
 
-// Enrol's checks in their order: 50, then those of the values, 52, 53.
-fn enrol_answer(given: bool, values: Checked, new: bool, room: bool) -> Checked
-    ensures { λ r. ⌜ r ≡ enrolOrder given values new room ⌝ }
+// Enrol's checks in their order: 50, then those of the values, 52, 53. The places are those of the id and of the first free room.
+fn check_enrol(id: u16, values: Checked, place: usize, room: usize) -> Checked
+    ensures { λ r. ⌜ r ≡ enrolFound id values place room ⌝ }
 {
-    if !given {
+    if id == 0 {
         return Checked::Refused(Refusal::IdZero);
     }
     if let Checked::Refused(_) = values {
         return values;
     }
-    if !new {
+    if place < 32 {
         return Checked::Refused(Refusal::IdTaken);
     }
-    if !room {
+    if 31 < room {
         return Checked::Refused(Refusal::TableFull);
     }
     values
 }
 
-fn check_enrol(rooms: [Account; 32], id: u16, values: Checked) -> Checked
-    ensures { λ r. ⌜ r ≡ enrolFound id values (map roomOf rooms) ⌝ }
-{
-    let new = !((id != 0) & holds(rooms, id));
-    enrol_answer(id != 0, values, new, holds(rooms, 0))
-}
-
-pub fn enrol(mut table: Table, id: u16, count: u16, seed: &[u8], password: &[u8; 8]) -> Settled
+pub fn enrol(table: Table, id: u16, count: u16, seed: &[u8], password: &[u8; 8]) -> Settled
     ensures { λ r. ⌜ steps.settled r ≡ steps.enrol id count (now (seed .entry)) (now (password .entry)) (view table) ⌝ }
 {
+    let place = place_of(table, id);
+    let room = place_of(table, 0);
     let next = propose(FREE, id, count, seed, password);
     let values = next.checked;
-    let rooms = table.rooms;
-    let answer = check_enrol(rooms, id, values);
+    let answer = check_enrol(id, values, place, room);
     if let Checked::Refused(_) = answer {
-        return Settled { answer, table };
+        return Settled { table, answer };
     }
     let account = next.account;
-    let housed = put(rooms, 0, account);
-    table.rooms = housed;
-    Settled { answer, table }
+    Settled {
+        table: put(table, room, account),
+        answer,
+    }
 }
 
 // Remove's check: 54.
-fn check_remove(rooms: [Account; 32], id: u16) -> Checked
-    ensures { λ r. ⌜ r ≡ there id (map roomOf rooms) ⌝ }
+fn check_remove(id: u16, place: usize) -> Checked
+    ensures { λ r. ⌜ r ≡ there id place ⌝ }
 {
-    if (id != 0) & holds(rooms, id) {
+    if (id != 0) & (place < 32) {
         return Checked::Good;
     }
     Checked::Refused(Refusal::AccountMissing)
 }
 
-pub fn remove(mut table: Table, id: u16) -> Settled
+pub fn remove(table: Table, id: u16) -> Settled
     ensures { λ r. ⌜ steps.settled r ≡ steps.remove id (view table) ⌝ }
 {
-    let rooms = table.rooms;
-    let answer = check_remove(rooms, id);
+    let place = place_of(table, id);
+    let answer = check_remove(id, place);
     if let Checked::Refused(_) = answer {
-        return Settled { answer, table };
+        return Settled { table, answer };
     }
-    let left = put(rooms, id, FREE);
-    table.rooms = left;
+    let mut next = put(table, place, FREE);
     let waiting = table.line;
-    let line = line::remove(waiting, id);
-    table.line = line;
-    Settled { answer, table }
+    let line = leaving::remove(waiting, id);
+    next.line = line;
+    Settled {
+        table: next,
+        answer,
+    }
 }

@@ -1,11 +1,13 @@
 -- Laws of the line: who starts with which turn when somebody joins, leaves or a tick passes; and two of lists.
-use Prim.Native.Nat.{ℕ, zero, suc, _-_, _≤_, _<_}
+use Prim.Native.Nat.{ℕ, zero, suc, _+_, _-_, _≤_, _<_}
 use mathlib.Core.Path.{_≡_, refl, sym, ap, _∙_}
 use mathlib.Core.Bool.{Bool, true, false, cond}
-use mathlib.Core.List.{List, [], _∷_, map}
+use mathlib.Core.List.{List, [], _∷_, _++_, map}
 use borrow.Author.Tests.{lt-ltb, eq-eqb, ne-eqb}
 use native.Mathlib.Omega.{arith}
-use lib.ListN.{length, take, length-map}
+use native.Mathlib.Numerals.{add-one}
+use lib.ListN.{length, getD, take, length-map}
+use lib.Seq.{take-suc}
 use Rattle.line.specs.declared.Place.{Place}
 use Rattle.line.specs.declared.Front.{Front}
 use Rattle.line.specs.Line.{Waiting, others, first, frontOf, start, joined, turnJoined, turnWithout, without, left, ticked, tickedFront}
@@ -23,6 +25,13 @@ take-count (suc k) (a ∷ l) = ap (λ (t : List _). a ∷ t) (take-count k l)
 -- The first n are all that are taken, if that is how many they are.
 pub all-taken : {A : Type 0} (n k : ℕ) (l : List A) → n ≡ length (take k l) → take n l ≡ take k l
 all-taken n k l e = ap (λ (m : ℕ). take m l) e ∙ take-count k l
+
+-- One place more.
+abbrev pub nobody : Place
+nobody = record { port = 0; id = 0 }
+
+pub one-more : (l : List Place) (i : ℕ) → i < length l → take (i + 1) l ≡ take i l ++ getD l i nobody ∷ []
+one-more l i h = ap (λ (n : ℕ). take n l) (add-one i) ∙ take-suc l i nobody h
 
 -- A line from its places and its turn.
 abbrev pub line-of : List Place → ℕ → Waiting

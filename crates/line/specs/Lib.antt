@@ -1,4 +1,3 @@
 -- The definitions that the promises of `line` cite, and laws for the crates above.
 pub mod Line
-pub mod Inside
 pub mod Laws

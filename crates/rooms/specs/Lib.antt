@@ -1,3 +1,3 @@
--- What a room means, and who stands in which: what the promises of `rooms` cite.
+-- What a room means, and who stands in which.
 pub mod Rooms
 pub mod Laws

@@ -1,11 +1,12 @@
--- The promises of `line`, `port`, `rooms`, `accounts`, `controller`, `enrolling`, `waiting` and `turns` determine their results: lines, accounts and tables as far as their bytes mean something.
+-- The promises of `line`, `back`, `leaving`, `port`, `seeds`, `accounts`, `asked`, `controller`, `standing`, `enrolling`, `joining`, `waiting`, `front`, `offers`, `replied` and `turns` determine their results: lines, accounts and tables as far as their bytes mean something.
 use mathlib.Core.Path.{_≡_, sym, _∙_}
 use denote.Ref.{now}
 use Rattle.line.proofs.fresh.Reads as line-fresh
-use Rattle.line.proofs.join.Reads as line-join
-use Rattle.line.proofs.leave.Reads as line-leave
-use Rattle.line.proofs.remove.Reads as line-remove
-use Rattle.line.proofs.tick.Reads as line-tick
+use Rattle.back.proofs.join.Reads as line-join
+use Rattle.leaving.proofs.leave.Reads as line-leave
+use Rattle.leaving.proofs.remove.Reads as line-remove
+use Rattle.leaving.proofs.tick.Reads as line-tick
+use Rattle.line.proofs.count.Reads as count
 use Rattle.line.proofs.has.Reads as has
 use Rattle.line.proofs.front_of.Reads as front-of
 use Rattle.port.proofs.after_wrong.Reads as after-wrong
@@ -15,22 +16,28 @@ use Rattle.port.proofs.after_tick.Reads as after-tick
 use Rattle.refusal.specs.declared.Refusal.{Refusal}
 use Rattle.port.specs.declared.Port.{Port}
 use Rattle.port.specs.Port.{cooled, rightly, wrongly, wrongAnswer}
-use Rattle.rooms.proofs.holds.Reads as holds
-use Rattle.rooms.proofs.account_of.Reads as account-of
-use Rattle.rooms.proofs.put.Reads as put
+use Rattle.standing.proofs.place_of.Reads as place-of
+use Rattle.standing.proofs.account_at.Reads as account-at
+use Rattle.standing.proofs.put.Reads as put
+use Rattle.seeds.proofs.seed_len.Reads as seed-len
+use Rattle.seeds.proofs.same_seed.Reads as same-seed
 use Rattle.accounts.proofs.values.propose.Reads as propose
-use Rattle.accounts.proofs.replies.write_challenge.Reads as write-challenge
-use Rattle.accounts.proofs.replies.lower.Reads as lower
+use Rattle.asked.proofs.write_challenge.Reads as write-challenge
+use Rattle.asked.proofs.lower.Reads as lower
 use Rattle.controller.proofs.fresh.Reads as controller-fresh
 use Rattle.enrolling.proofs.enrol.Reads as enrol
 use Rattle.enrolling.proofs.remove.Reads as enrolling-remove
-use Rattle.waiting.proofs.join.Reads as waiting-join
+use Rattle.joining.proofs.join.Reads as joining-join
 use Rattle.waiting.proofs.leave.Reads as waiting-leave
 use Rattle.waiting.proofs.tick.Reads as waiting-tick
-use Rattle.turns.proofs.calls.challenge.Reads as challenge
-use Rattle.turns.proofs.calls.reply.Reads as reply
-use Rattle.turns.proofs.calls.renew.Reads as renew
-use mathlib.Core.List.{map}
+use Rattle.front.proofs.check_turn.Reads as check-turn
+use Rattle.offers.proofs.offer.Reads as offer
+use Rattle.replied.proofs.replied.Reads as replied
+use Rattle.replied.proofs.renewed.Reads as renewed
+use Rattle.offers.specs.Turn.{outcome}
+use Rattle.turns.proofs.challenge.Reads as challenge
+use Rattle.turns.proofs.reply.Reads as reply
+use Rattle.turns.proofs.renew.Reads as renew
 use Rattle.line.specs.Line.{waiting}
 use Rattle.rooms.specs.Rooms.{roomOf}
 use Rattle.accounts.specs.Accounts.{proposal}
@@ -53,6 +60,9 @@ line-remove-determined k a y z e f p q = p ∙ sym q
 
 pub line-tick-determined : AnswersSeen line-tick.Learnt (λ k y. waiting y)
 line-tick-determined k a y z e f p q = p ∙ sym q
+
+pub count-determined : Answers count.Learnt
+count-determined k a y z e f p q = p .0 ∙ sym (q .0)
 
 pub has-determined : Answers has.Learnt
 has-determined k a y z e f p q = p ∙ sym q
@@ -85,14 +95,20 @@ pub lent-wrong-determined : (before y z : Port) (r s : Refusal)
 lent-wrong-determined before y z r s p q = both p q
 
 -- An account is seen as what it means, without the zeros after its seed.
-pub holds-determined : Answers holds.Learnt
-holds-determined k a y z e f p q = p ∙ sym q
+pub place-of-determined : Answers place-of.Learnt
+place-of-determined k a y z e f p q = p .0 ∙ sym (q .0)
 
-pub account-of-determined : AnswersSeen account-of.Learnt (λ k y. roomOf y)
-account-of-determined k a y z e f p q = p ∙ sym q
+pub account-at-determined : AnswersSeen account-at.Learnt (λ k y. roomOf y)
+account-at-determined k a y z e f p q = p ∙ sym q
 
-pub put-determined : AnswersSeen put.Learnt (λ k y. map roomOf y)
+pub put-determined : AnswersSeen put.Learnt (λ k y. view y)
 put-determined k a y z e f p q = p ∙ sym q
+
+pub seed-len-determined : Answers seed-len.Learnt
+seed-len-determined k a y z e f p q = p .0 ∙ sym (q .0)
+
+pub same-seed-determined : Answers same-seed.Learnt
+same-seed-determined k a y z e f p q = p ∙ sym q
 
 pub propose-determined : AnswersSeen propose.Learnt (λ k y. proposal y)
 propose-determined k a y z e f p q = p ∙ sym q
@@ -102,6 +118,19 @@ write-challenge-determined k a y z e f p q = left _ _ p q
 
 pub lower-determined : AnswersSeen lower.Learnt (λ k y. roomOf y)
 lower-determined k a y z e f p q = p ∙ sym q
+
+-- A turn is seen as its room, its account, the port's record and the line.
+pub check-turn-determined : Answers check-turn.Learnt
+check-turn-determined k a y z e f p q = p ∙ sym q
+
+pub offer-determined : AnswersSeen offer.Learnt (λ k y. outcome y)
+offer-determined k a y z e f p q = p ∙ sym q
+
+pub replied-determined : AnswersSeen replied.Learnt (λ k y. outcome y)
+replied-determined k a y z e f p q = p ∙ sym q
+
+pub renewed-determined : AnswersSeen renewed.Learnt (λ k y. outcome y)
+renewed-determined k a y z e f p q = p ∙ sym q
 
 -- A table is seen by its view, beside the answer.
 pub controller-fresh-determined : AnswersSeen controller-fresh.Learnt (λ k y. view y)
@@ -113,8 +142,8 @@ enrol-determined k a y z e f p q = p ∙ sym q
 pub enrolling-remove-determined : AnswersSeen enrolling-remove.Learnt (λ k y. settled y)
 enrolling-remove-determined k a y z e f p q = p ∙ sym q
 
-pub waiting-join-determined : AnswersSeen waiting-join.Learnt (λ k y. settled y)
-waiting-join-determined k a y z e f p q = p ∙ sym q
+pub joining-join-determined : AnswersSeen joining-join.Learnt (λ k y. settled y)
+joining-join-determined k a y z e f p q = p ∙ sym q
 
 pub waiting-leave-determined : AnswersSeen waiting-leave.Learnt (λ k y. settled y)
 waiting-leave-determined k a y z e f p q = p ∙ sym q

@@ -1,18 +1,35 @@
--- `check_enrol` meets its promise: its tests are those that are written.
-use mathlib.Core.Path.{_≡_, _∙_}
-use mathlib.Core.Bool.{not, _&&_}
+-- `check_enrol` meets its promise: each return is the first check that fails.
+use mathlib.Core.Path.{_≡_}
 use borrow.Author.Needs.{needs}
-use lib.Dec.{eqb}
-use Rattle.enrolling.specs.Inside.{enrolOrder}
+use native.Mathlib.Omega.{arith}
+use borrow.Author.Tests.{eq-eqb, ne-eqb, lt-ltb, le-ltb}
+use Rattle.enrolling.proofs.Order.{enrol-50, enrol-values, enrol-52, enrol-53, enrol-good}
 use Rattle.enrolling.proofs.check_enrol.Statement.{statement}
 use Rattle.enrolling.proofs.check_enrol.Tie as tie
 
-returns : tie.Need-returns
-returns c =
-    let looked = c .before in
-    let a = looked .before .before .args in
-    c .enrol-answer .ensures
-    ∙ (λ i. enrolOrder (not (eqb (a .id) 0)) (a .values) (not (not (eqb (a .id) 0) && looked .before .holds .ensures i)) (looked .holds2 .ensures i))
-
 pub check-enrol-spec : {M : Type 1} → statement M
-check-enrol-spec = tie.close (tie.spec (λ c κs. search needs) (λ c κs. search needs) (λ c κs. search needs) returns)
+check-enrol-spec =
+    tie.close
+    (tie.spec
+    (λ c. let a = c .before .args in enrol-50 (a .id) (a .values) (a .place) (a .room) (eq-eqb _ _ (c .if1 .taken)))
+    (λ c. search needs)
+    (λ c.
+    let given = c .before .before in
+    let a = given .before .args in
+    enrol-values (a .id) (a .values) (a .place) (a .room) (ne-eqb _ _ (given .if1 .left)) _ (c .enum-told .given .1))
+    (λ c. search needs)
+    (λ c.
+    let told = c .before in
+    let given = told .before .before in
+    let a = given .before .args in
+    enrol-52 (a .id) (a .values) (a .place) (a .room) (ne-eqb _ _ (given .if1 .left)) (told .enum-told2 .given .1) (lt-ltb _ 32 (c .if2 .taken)))
+    (λ c.
+    let told = c .before .before in
+    let given = told .before .before in
+    let a = given .before .args in
+    enrol-53 (a .id) (a .values) (a .place) (a .room) (ne-eqb _ _ (given .if1 .left)) (told .enum-told2 .given .1) (le-ltb _ 32 (c .before .if2 .left)) (le-ltb _ 32 (c .if3 .taken)))
+    (λ c.
+    let told = c .before .before in
+    let given = told .before .before in
+    let a = given .before .args in
+    enrol-good (a .id) (a .values) (a .place) (a .room) (ne-eqb _ _ (given .if1 .left)) (told .enum-told2 .given .1) (le-ltb _ 32 (c .before .if2 .left)) (lt-ltb (a .room) 32 (omega (arith, c .if3 .left)))))

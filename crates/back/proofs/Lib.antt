@@ -1,0 +1,2 @@
+-- What the proof of `join` cites.
+pub mod Places

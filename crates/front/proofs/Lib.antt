@@ -1,0 +1,2 @@
+-- What the proofs of `front`'s functions share.
+pub mod Order

@@ -1,0 +1,2 @@
+-- What the proofs of `joining`'s functions share.
+pub mod Order

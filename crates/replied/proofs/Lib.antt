@@ -1,0 +1,2 @@
+-- What the proofs of `replied`'s functions share.
+pub mod Order

@@ -1,2 +1,0 @@
--- What the proofs of `rooms`' functions share.
-pub mod Places

@@ -1,0 +1,2 @@
+-- What the proofs of `seeds`' functions share.
+pub mod Kept

@@ -1,0 +1,2 @@
+-- Laws for the crates above: the promises are over `controller`'s definitions.
+pub mod Laws

@@ -1,2 +1,0 @@
--- What the proofs of `turns`' functions share.
-pub mod Order

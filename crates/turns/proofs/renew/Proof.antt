@@ -1,0 +1,36 @@
+-- `renew` meets its promise: what the turn becomes, put back, is the written step.
+use Prim.Native.Nat.{ℕ}
+use mathlib.Core.Path.{_≡_, ap, _∙_}
+use borrow.Author.Needs.{needs}
+use Rattle.rooms.specs.Rooms.{placeOf}
+use Rattle.controller.specs.Table.{view}
+use Rattle.offers.specs.Turn.{Seen, Said, after}
+use Rattle.replied.specs.Replied as spec
+use Rattle.replied.specs.Laws.{after-renew}
+use Rattle.turns.specs.Inside.{seenAt}
+use Rattle.turns.proofs.renew.Statement.{statement}
+use Rattle.turns.proofs.renew.Tie as tie
+
+returns : tie.Need-returns
+returns c =
+    let done = c .before in
+    let taken = done .before in
+    let looked = taken .before in
+    let a = looked .before .before .before .before .before .args in
+    let s = view (a .table) in
+    let place = looked .place-of .ensures .0 ∙ ap (λ (id : ℕ). placeOf id (s .rooms)) (looked .before .turn-id .ensures) in
+    let turn = taken .turn-of .ensures ∙ ap (λ (n : ℕ). seenAt (a .port) n s) place in
+    c .put-back .ensures
+    ∙ ap (after (a .port) s) (done .renewed .ensures ∙ ap (spec.renewed (a .port) (a .count) (a .seed .now) (a .password .now) (a .text .now)) turn)
+    ∙ after-renew (a .port) s (a .count) (a .seed .now) (a .password .now) (a .text .now)
+
+pub renew-spec : {M : Type 1} → statement M
+renew-spec =
+    tie.close
+    (tie.spec
+    (λ c κs. search needs)
+    (λ c κs. search needs)
+    (λ c κs. search needs)
+    (λ c κs. search needs)
+    (λ c κs. search needs)
+    returns)

@@ -1,2 +1,0 @@
--- What the proofs of `waiting`'s functions share.
-pub mod Order
