@@ -74,7 +74,7 @@ fn write(call: usize, line: &[u8], given: Given, lent: &mut [u8]) -> Written
     }
 }
 
-// A writer's call, whose word k is the room that it is lent.
+// A writer's call, which is lent that many bytes.
 fn writer(call: usize, line: &[u8], given: Given, room: u64)
     requires { ⌜ Within given (length (now line)) ⌝ }
 {
