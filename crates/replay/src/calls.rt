@@ -1,5 +1,6 @@
-// The calls by number: what each is called. Numbers under 9 are calls that need no table.
+// The calls by number: what each is called, and of what kinds its words are. Numbers under 9 are calls that need no table.
 ghost use Prim.Native.Nat.{_<_};
+use crate::words::Kind;
 
 // A byte of the name of a call: nine to each, of which the last may be blank.
 fn letter(call: usize, i: usize) -> u8
@@ -46,4 +47,21 @@ pub fn call_of(word: &[u8]) -> usize {
         call += 1;
     }
     call
+}
+
+// The kind of a call's word k, from a list with five letters to each call.
+pub fn kind_of(call: usize, k: usize) -> Kind
+    requires { ⌜ (call < 19) × (k < 5) ⌝ }
+{
+    let kinds =
+        b"T----TTN--PR---PR---T----T----TNR--TTNR-T---------NNTP-N----NN---N----NR---NT---NNTPTK---------";
+    let at = 5 * call + k;
+    match kinds[at] {
+        b'T' => Kind::Text,
+        b'P' => Kind::Password,
+        b'N' => Kind::Number,
+        b'R' => Kind::Room,
+        b'K' => Kind::Ticks,
+        _ => Kind::No,
+    }
 }

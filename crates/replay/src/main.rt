@@ -8,16 +8,18 @@ use login::table::Table;
 mod calls;
 // The table on a line.
 mod dump;
-// What a call is given.
-mod given;
 // What a writer is lent.
 mod lending;
+// What a word says.
+mod numbers;
 // Answers.
 mod printing;
 // The calls on the table.
 mod tables;
 // The calls that need no table.
 mod texts;
+// The words of a line.
+mod words;
 
 // Whether a line is passed over: an empty one, and a comment.
 fn is_passed(line: &[u8]) -> bool {
@@ -29,7 +31,7 @@ fn is_passed(line: &[u8]) -> bool {
 
 // The number of the call that a line names.
 fn call_in(line: &[u8]) -> usize {
-    let end = replay_words::words::end_of(line, 0);
+    let end = words::end_of(line, 0);
     calls::call_of(&line[..end])
 }
 
@@ -37,7 +39,7 @@ fn call_in(line: &[u8]) -> usize {
 fn answer_call(line: &mut [u8], call: usize, table: Table) -> Table
     requires { ⌜ call < 19 ⌝ }
 {
-    let given = replay_words::words::read(line, call);
+    let given = words::read(line, call);
     if !given.good {
         printing::bad();
         return table;

@@ -1,22 +1,22 @@
 // The calls on the table, each of which hands it back.
 ghost use lib.ListN.{length};
-ghost use Rattle.replay_words.specs.Words.{Within};
+ghost use Rattle.replay.specs.Words.{Within};
 use crate::dump::dump;
-use crate::given::number;
-use crate::given::port;
-use crate::given::short;
-use crate::given::text;
 use crate::lending::filled;
 use crate::lending::first;
 use crate::printing::checked;
 use crate::printing::ok;
 use crate::printing::replied;
 use crate::printing::written;
+use crate::words::Given;
+use crate::words::number;
+use crate::words::port;
+use crate::words::short;
+use crate::words::text;
 use eight_bytes::bytes_of;
 use login::table::Answered;
 use login::table::Settled;
 use login::table::Table;
-use replay_words::words::Given;
 
 fn settled(result: Settled) -> Table {
     let answer = result.answer;

@@ -1,9 +1,6 @@
 // The calls that need no table: passwords, replies, challenges, cards.
 ghost use lib.ListN.{length};
-ghost use Rattle.replay_words.specs.Words.{Within};
-use crate::given::number;
-use crate::given::short;
-use crate::given::text;
+ghost use Rattle.replay.specs.Words.{Within};
 use crate::lending::filled;
 use crate::lending::first;
 use crate::printing::after_space;
@@ -13,9 +10,12 @@ use crate::printing::good;
 use crate::printing::reading;
 use crate::printing::refused;
 use crate::printing::written;
+use crate::words::Given;
+use crate::words::number;
+use crate::words::short;
+use crate::words::text;
 use challenge::reading::Challenge;
 use refusal::Written;
-use replay_words::words::Given;
 
 fn md5(data: &[u8]) {
     let mut digest = [0u8; 16];
