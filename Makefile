@@ -2,8 +2,6 @@
 SHELL := /bin/bash
 .PHONY: test bench card replay soak compare
 .DEFAULT_GOAL := test
-# How many crates or edits rt has under way at once: more than two cores, so that none waits for the longest of a pair.
-export RT_JOBS ?= 4
 
 # The gate: layout, every proof from nothing with the must-fail edits and the programs, the host tests.
 # rt ci's verdict is printed once more at the end; whatever fails ends it with a status other than 0.
