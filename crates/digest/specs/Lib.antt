@@ -1,3 +1,2 @@
--- The definition that the promise of `digest` cites, and worked examples.
+-- The definition that the promise of `digest` cites.
 pub mod Digest
-pub mod Examples

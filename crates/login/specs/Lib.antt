@@ -1,0 +1,2 @@
+-- What a table with no account answers.
+pub mod Empty
