@@ -1,7 +1,8 @@
--- The promises of `rows`, `lookup`, `sixwords`, `hex`, `spelling`, `typed_words`, `known_words` and `reply` determine their results.
+-- The promises of `rows`, `heads`, `lookup`, `sixwords`, `hex`, `spelling`, `typed_words`, `known_words` and `reply` determine their results.
 use mathlib.Core.Path.{sym, _∙_}
 use denote.Ref.{now}
 use Rattle.rows.proofs.row.Reads as row
+use Rattle.heads.proofs.head.Reads as head
 use Rattle.lookup.proofs.word_at.Reads as word-at
 use Rattle.lookup.proofs.place_of.Reads as place-of
 use Rattle.sixwords.proofs.places_of.Reads as places-of
@@ -17,6 +18,9 @@ use Rattle.demands.specs.Determined.{Answers, AnswersAndLent, left}
 
 pub row-determined : Answers row.Learnt
 row-determined k a y z e f p q = p ∙ sym q
+
+pub head-determined : Answers head.Learnt
+head-determined k a y z e f p q = p ∙ sym q
 
 pub word-at-determined : Answers word-at.Learnt
 word-at-determined k a y z e f p q = p ∙ sym q

@@ -1,4 +1,4 @@
--- `last_in_row` meets its promise: a row is a span, and three steps leave one place of it.
+-- `last_in_row` meets its promise: a row is a span, and four steps leave one place of it.
 use native.Mathlib.Omega.{arith}
 use native.Mathlib.Nat.{add-zero}
 use borrow.Author.Needs.{needs}
@@ -10,6 +10,7 @@ last-in-row-spec =
     tie.close
     (tie.spec
     (λ c κs. (c .pre .0, omega arith, omega arith, rw add-zero (c .pre .1)))
+    (λ c κs. search needs)
     (λ c κs. search needs)
     (λ c κs. search needs)
     (λ c. search needs))

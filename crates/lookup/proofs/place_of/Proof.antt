@@ -5,14 +5,14 @@ use mathlib.Core.List.{List}
 use borrow.Author.Needs.{needs}
 use lib.ListN.{getD}
 use Rattle.dictionary.specs.Dictionary.{packedAt}
-use Rattle.rows.specs.Laws.{row-at}
+use Rattle.dictionary.specs.RowLaws.{row-at}
 use Rattle.lookup.proofs.Ends.{ends-at, ends-beside}
 use Rattle.lookup.proofs.place_of.Statement.{statement}
 use Rattle.lookup.proofs.place_of.Tie as tie
 
 -- what the row has at the place where the search ends
 ended : (c : tie.After-last-in-row) →
-    getD (c .before .before .row .result) (c .last-in-row .result) 0 ≡ packedAt (c .before .before .before .last-of-32 .result * 8 + c .last-in-row .result)
+    getD (c .before .before .row .result) (c .last-in-row .result) 0 ≡ packedAt (c .before .before .before .last-of-32 .result * 16 + c .last-in-row .result)
 ended c =
     ap (λ (l : List ℕ). getD l (c .last-in-row .result) 0) (c .before .before .row .ensures)
     ∙ row-at (c .before .before .before .last-of-32 .result) (c .last-in-row .result) (c .last-in-row .ensures .0)
@@ -27,7 +27,6 @@ pub place-of-spec : {M : Type 1} → statement M
 place-of-spec =
     tie.close
     (tie.spec
-    (λ c κs. search needs)
     (λ c κs. search needs)
     (λ c κs. search needs)
     (λ c κs. search needs)

@@ -6,13 +6,13 @@ use native.Mathlib.Omega.{arith}
 use borrow.Author.Needs.{needs}
 use lib.ListN.{getD}
 use Rattle.dictionary.specs.Dictionary.{packedAt}
-use Rattle.rows.specs.Laws.{row-at}
+use Rattle.dictionary.specs.RowLaws.{row-at}
 use Rattle.lookup.proofs.Spans.{upper, lower}
 use Rattle.lookup.proofs.upper_places.Statement.{statement}
 use Rattle.lookup.proofs.upper_places.Tie as tie
 
 -- what the row has in the middle
-middle : (c : tie.Start) → getD (c .args .words .now) (c .args .low + c .args .half) 0 ≡ packedAt (c .args .i * 8 + (c .args .low + c .args .half))
+middle : (c : tie.Start) → getD (c .args .words .now) (c .args .low + c .args .half) 0 ≡ packedAt (c .args .i * 16 + (c .args .low + c .args .half))
 middle c =
     ap (λ (l : List ℕ). getD l (c .args .low + c .args .half) 0) (c .pre .0)
     ∙ row-at (c .args .i) (c .args .low + c .args .half) (omega arith)
@@ -21,7 +21,7 @@ returns : tie.Need-returns
 returns c =
     let a = c .before .before .args in (
       omega arith,
-      upper (a .word) (a .i * 8 + a .low) (2 * a .half) (a .i * 8 + (a .low + a .half)) (a .half) (c .before .before .pre .3) (omega arith)
+      upper (a .word) (a .i * 16 + a .low) (2 * a .half) (a .i * 16 + (a .low + a .half)) (a .half) (c .before .before .pre .3) (omega arith)
           (omega (arith, middle (c .before .before), c .if1 .taken)),
     )
 
@@ -29,7 +29,7 @@ returns-2 : tie.Need-returns-2
 returns-2 c =
     let a = c .before .before .args in (
       omega arith,
-      lower (a .word) (a .i * 8 + a .low) (2 * a .half) (a .i * 8 + (a .low + a .half)) (a .half) (c .before .before .pre .3) (omega arith) (omega arith)
+      lower (a .word) (a .i * 16 + a .low) (2 * a .half) (a .i * 16 + (a .low + a .half)) (a .half) (c .before .before .pre .3) (omega arith) (omega arith)
           (omega (arith, middle (c .before .before), c .if1 .left)),
     )
 

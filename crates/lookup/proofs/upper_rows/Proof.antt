@@ -9,13 +9,13 @@ use Rattle.lookup.proofs.upper_rows.Tie as tie
 returns : tie.Need-returns
 returns c =
     let a = c .before .before .args in
-    upper (a .word) (a .low * 8) (2 * a .half * 8) ((a .low + a .half) * 8) (a .half * 8) (c .before .before .pre) (omega arith)
+    upper (a .word) (a .low * 16) (2 * a .half * 16) ((a .low + a .half) * 16) (a .half * 16) (c .before .before .pre) (omega arith)
     (omega (arith, c .before .head .ensures, c .if1 .taken))
 
 returns-2 : tie.Need-returns-2
 returns-2 c =
     let a = c .before .before .args in
-    lower (a .word) (a .low * 8) (2 * a .half * 8) ((a .low + a .half) * 8) (a .half * 8) (c .before .before .pre) (omega arith) (omega arith)
+    lower (a .word) (a .low * 16) (2 * a .half * 16) ((a .low + a .half) * 16) (a .half * 16) (c .before .before .pre) (omega arith) (omega arith)
     (omega (arith, c .before .head .ensures, c .if1 .left))
 
 pub upper-rows-spec : {M : Type 1} → statement M

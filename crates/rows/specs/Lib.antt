@@ -1,3 +1,0 @@
--- The rows that the promise of `rows` cites, and their law.
-pub mod Rows
-pub mod Laws
