@@ -11,10 +11,11 @@ import time
 sys.dont_write_bytecode = True
 
 import harness  # noqa: E402
-from sections import cards, challenges, docs, paper, passwords, promises, replay, replies, selftest  # noqa: E402
+from sections import cards, challenges, docs, paper, passwords, promises, refused, replay, replies, selftest  # noqa: E402
 
 SECTIONS = [
     ("comparison can fail", selftest.comparison_can_fail),
+    ("reading of refusals can fail", selftest.refusals_can_fail),
     ("document 01's examples", paper.examples),
     ("recorded scripts", paper.scripts),
     ("RFC 2289, Appendix C", passwords.appendix_c),
@@ -37,6 +38,7 @@ SECTIONS = [
     ("program replay on lines that are no call", replay.no_calls),
     ("program replay at random", replay.at_random),
     ("what docs/PROMISES.md names", promises.page),
+    ("the must-fail edits' logs", refused.page),
     ("figures in README.md", docs.figures),
     ("commands in the documents", docs.commands),
 ]

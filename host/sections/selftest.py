@@ -1,6 +1,7 @@
 """That the comparison can fail: tests of the tests."""
 import harness
 from harness import Failed, call
+from sections import refused
 
 
 def fails(check, *given):
@@ -28,3 +29,20 @@ def comparison_can_fail(driver):
     if not all(found):
         raise Failed(f"of the six, as they should be: {found}")
     return f"{len(found)} cases: a difference is reported, and nothing else"
+
+
+def refusals_can_fail(driver):
+    """A wrong function that is let pass, or is refused for what it calls or for a proof's shape, is found."""
+    alone = "fn lookup::word_at: not proved\n"
+    said = [
+        "fn lookup::word_at: proved\n",
+        "fn lookup::place_of: not proved\n",
+        "fn lookup::word_at: not proved; it calls `rows::row`, which is not proved\n",
+        alone + "Proof.antt:13:23: error: `returns`: record `After-row` has no field `args`\n",
+    ]
+    held = [lambda log=log: refused.refused_alone("lookup", "an edit", log, [("src/lib.rt", "words[place % 16]", "words[0]")])
+            for log in [alone, *said]]
+    found = [not fails(held[0]), *(fails(check) for check in held[1:])]
+    if not all(found):
+        raise Failed(f"of the five, as they should be: {found}")
+    return f"{len(found)} logs: a wrong function that is not refused by itself is reported, and nothing else"

@@ -1,0 +1,87 @@
+"""The must-fail edits, by the prover's logs: each function that an edit makes wrong is refused by itself, and for a fact."""
+import collections
+import re
+
+from harness import ROOT, Failed
+from sections.promises import CRATES, public
+
+# What the prover says where a name is missing or a proof file no longer fits the code. No edit may be refused for that.
+SHAPE = re.compile(r"is not in scope|has no field|this has type `tie\.Need")
+HEAD = re.compile(r"^(?:pub )?(?:extern \"C\" )?fn (\w+)", re.M)
+LEAST = 2
+
+
+def edits():
+    """Each edit: its crate, its name and its replacements, as file, old text and new."""
+    for path in sorted(CRATES.glob("*/must-fail/*.edit")):
+        changes, file, old = [], None, None
+        for line in path.read_text().splitlines():
+            if line.startswith("file: "):
+                file = line.removeprefix("file: ")
+            elif line.startswith("old: "):
+                old = line.removeprefix("old: ")
+            elif line.startswith("new:"):
+                changes.append((file, old, line.removeprefix("new:").removeprefix(" ")))
+        yield path.parent.parent.name, path.stem, changes
+
+
+def function_at(crate, file, source, place):
+    """The path of the function that a place of a source file is in; none for a constant or an import."""
+    heads = [head for head in HEAD.finditer(source) if head.start() <= place]
+    if not heads or source.find("\n}\n", heads[-1].start()) < place:
+        return None
+    inside = [part for part in file.removeprefix("src/").removesuffix(".rt").split("/") if part != "lib"]
+    return "::".join([crate, *inside, heads[-1][1]])
+
+
+def changed(crate, changes):
+    """The functions that an edit's replacements, one after the other, change; none for a definition's."""
+    sources, found = {}, set()
+    for file, old, new in changes:
+        source = sources.get(file) or (CRATES / crate / file).read_text()
+        if file.startswith("src/"):
+            found.add(function_at(crate, file, source, source.index(old)))
+        sources[file] = source.replace(old, new)
+    return found - {None}
+
+
+def log_of(crate, edit):
+    """What the prover said of an edit."""
+    path = ROOT / "target" / "must-fail" / crate / edit / ".log"
+    if not path.is_file():
+        raise Failed(f"{crate}/{edit}: no log, so no whole run of the gate came before")
+    return path.read_text()
+
+
+def refused_alone(crate, edit, said, changes):
+    """The functions that an edit makes wrong. Each has to be refused, and not for what it calls."""
+    wrong = changed(crate, changes)
+    for path in wrong:
+        verdict = re.search(rf"^fn {path}: not proved(.*)", said, re.M)
+        if not verdict or "; it calls" in verdict[1]:
+            raise Failed(f"{crate}/{edit}: {path} is not refused by itself")
+    if SHAPE.search(said):
+        raise Failed(f"{crate}/{edit}: refused for {SHAPE.search(said)[0]!r}, which is no fact")
+    return len(wrong)
+
+
+def counted():
+    """How many edits there are, how many functions they make wrong, and with how many each function is not proved."""
+    count, wrong, seen = 0, 0, collections.Counter()
+    for crate, edit, changes in edits():
+        said = log_of(crate, edit)
+        wrong += refused_alone(crate, edit, said, changes)
+        seen.update(re.findall(r"^fn ([\w:]+): not proved", said, re.M))
+        count += 1
+    return count, wrong, seen
+
+
+def page(driver):
+    """Every edit is refused as it should be, and every public function in two edits or more."""
+    count, wrong, seen = counted()
+    names = set(public())
+    few = sorted(name for name in names if seen[name] < LEAST)
+    if few:
+        raise Failed(f"refused in fewer than {LEAST} edits: {', '.join(few)}")
+    return (f"{count} edits; {wrong} functions made wrong by them, each refused by itself, and none for a name or the "
+            f"shape of a proof; {len(names)} public functions, each refused in {LEAST} edits or more")
