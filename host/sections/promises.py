@@ -73,6 +73,18 @@ def theorems():
     return len(names)
 
 
+def cited():
+    """The functions, or modules, that the sentences' statements name."""
+    known = {name for name, _ in functions()}
+    names = {name for heading in ("The letter's demands", "Document 01") for cells in section(heading)
+             for name in re.findall(r"`(\w+(?:::\w+)+)`", cells[1])}
+    for name in sorted(names - known):
+        crate, *inside = name.split("::")
+        if not (CRATES / crate / "src" / "/".join(inside)).with_suffix(".rt").is_file():
+            raise Failed(f"no such function: {name}")
+    return len(names)
+
+
 def asking():
     """The functions that ask something of their callers are those of the list."""
     listed = {name for cells in section("Inner functions with a `requires`") for name in named(cells[0])}
@@ -108,5 +120,5 @@ def determined():
 
 def page(driver):
     """Everything that the page names or lists."""
-    return (f"{files()} files, {theorems()} theorems, {edits()} edits, {asking()} inner functions; "
+    return (f"{files()} files, {theorems()} theorems, {cited()} functions, {edits()} edits, {asking()} inner functions; "
             f"{determined()} public functions, each with its theorem that its promise determines its results")
