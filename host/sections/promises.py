@@ -73,7 +73,7 @@ def theorems():
     return len(names)
 
 
-def cited():
+def promised():
     """The functions, or modules, that the sentences' statements name."""
     known = {name for name, _ in functions()}
     names = {name for heading in ("The letter's demands", "Document 01") for cells in section(heading)
@@ -120,5 +120,5 @@ def determined():
 
 def page(driver):
     """Everything that the page names or lists."""
-    return (f"{files()} files, {theorems()} theorems, {cited()} functions, {edits()} edits, {asking()} inner functions; "
+    return (f"{files()} files, {theorems()} theorems, {promised()} functions, {edits()} edits, {asking()} inner functions; "
             f"{determined()} public functions, each with its theorem that its promise determines its results")
