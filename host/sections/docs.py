@@ -66,13 +66,15 @@ def gate_figures():
     if not verdicts or not all(verdicts) or set(edits) != {"refused"}:
         raise Failed("target/ has not what a whole run of the gate leaves")
     return {"crates": len(verdicts), "functions": sum(int(found[1]) for found in verdicts),
-            "axioms": max(int(found[2] or 0) for found in verdicts), "edits": len(edits), "wrong": refused.counted()[1]}
+            "axioms": max(int(found[2] or 0) for found in verdicts), "edits": len(edits),
+            "wrong": refused.counted()[1]}
 
 
 def figures(driver):
     """The README's figures are the gate's."""
     counted = gate_figures()
-    line = ("{crates} crates, {functions} functions proved, {edits} wrong programs refused with {wrong} wrong functions; "
+    line = ("{crates} crates, {functions} functions proved, {edits} wrong edits refused, and in them {wrong} wrong "
+            "functions; "
             "{axioms} functions of the C library assumed (`read` and `write`, in the programs alone)").format(**counted)
     if line not in (ROOT / "README.md").read_text().replace("\n", " "):
         raise Failed(f"README.md should say: {line}")

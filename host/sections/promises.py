@@ -120,5 +120,5 @@ def determined():
 
 def page(driver):
     """Everything that the page names or lists."""
-    return (f"{files()} files, {theorems()} theorems, {promised()} functions, {edits()} edits, {asking()} inner functions; "
-            f"{determined()} public functions, each with its theorem that its promise determines its results")
+    return (f"{files()} files, {theorems()} theorems, {promised()} functions, {edits()} edits, "
+            f"{asking()} inner functions; {determined()} public functions, each with its theorem that its promise determines its results")

@@ -1,12 +1,12 @@
-"""The must-fail edits, by the prover's logs: each function that an edit makes wrong is refused by itself, and for a fact."""
+"""The must-fail edits, by the prover's logs: each function that one makes wrong is refused by itself, for a fact."""
 import collections
 import re
 
 from harness import ROOT, Failed
 from sections.promises import CRATES, public
 
-# What the prover says where a name is missing or a proof file no longer fits the code. No edit may be refused for that.
-SHAPE = re.compile(r"is not in scope|has no field|this has type `tie\.Need")
+# What the prover says where a name is missing or a step of a proof no longer fits. No edit may be refused for that.
+SHAPE = re.compile(r"is not in scope|has no field|this has type `tie\.Need|no occurrence of the path's left endpoint")
 HEAD = re.compile(r"^(?:pub )?(?:extern \"C\" )?fn (\w+)", re.M)
 LEAST = 2
 

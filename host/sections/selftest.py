@@ -40,8 +40,8 @@ def refusals_can_fail(driver):
         "fn lookup::word_at: not proved; it calls `rows::row`, which is not proved\n",
         alone + "Proof.antt:13:23: error: `returns`: record `After-row` has no field `args`\n",
     ]
-    held = [lambda log=log: refused.refused_alone("lookup", "an edit", log, [("src/lib.rt", "words[place % 16]", "words[0]")])
-            for log in [alone, *said]]
+    change = ("src/lib.rt", "words[place % 16]", "words[0]")
+    held = [lambda log=log: refused.refused_alone("lookup", "an edit", log, [change]) for log in [alone, *said]]
     found = [not fails(held[0]), *(fails(check) for check in held[1:])]
     if not all(found):
         raise Failed(f"of the five, as they should be: {found}")

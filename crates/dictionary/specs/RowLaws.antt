@@ -6,7 +6,7 @@ use native.Mathlib.Decide.{decLt}
 use native.Mathlib.Nat.{le-of-suc-le-suc, not-suc-le-zero, add-zero}
 use mathlib.Core.Path.{_≡_, refl, sym, _∙_, ap}
 use mathlib.Core.Bool.{Bool, true, _&&_}
-use mathlib.Core.List.{List, [], _∷_, map, flatten, map-append, _++_}
+use mathlib.Core.List.{List, [], _∷_, map, flatten, map-append}
 use lib.Dec.{T, eqb, eqb→eq}
 use lib.ListN.{length, getD, length-map, replicate, getD-replicate, List·getD-append, List·getD-eq-default}
 use lib.Seq.{getD-append-add}

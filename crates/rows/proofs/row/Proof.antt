@@ -1,6 +1,5 @@
 -- `row` meets its promise: in each arm the row's number is known, and the lines of the dictionary compute to the arm's words.
 use mathlib.Core.Path.{sym, ap}
-use mathlib.Core.List.{_++_}
 use Rattle.text.specs.Quoted.{codes}
 use Rattle.dictionary.specs.Words.{wordsIn, lines}
 use Rattle.dictionary.specs.Dictionary.{packed, numberFrom}
