@@ -1,4 +1,5 @@
 """What the sections share: building the C programs, asking them, comparing."""
+import os
 import pathlib
 import subprocess
 
@@ -16,6 +17,12 @@ IN_C = {"md5", "gen", "read", "hex", "words", "chal", "wchal", "card"}
 
 class Failed(Exception):
     """A check that does not hold, said in a line or a few."""
+
+
+def typed(**more):
+    """The environment of a command that a person types: without what a make around this test hands on."""
+    of_make = {"MAKEFLAGS", "MAKELEVEL", "MFLAGS", "GNUMAKEFLAGS", "MAKEOVERRIDES", "MAKE_TERMERR", "MAKE_TERMOUT"}
+    return {**{name: value for name, value in os.environ.items() if name not in of_make}, **more}
 
 
 def run(command, **options):

@@ -11,11 +11,12 @@ import time
 sys.dont_write_bytecode = True
 
 import harness  # noqa: E402
-from sections import cards, challenges, docs, paper, passwords, promises, refused, replay, replies, selftest  # noqa: E402
+from sections import cards, challenges, commands, docs, paper, passwords, promises, refused, replay, replies, selftest  # noqa: E402
 
 SECTIONS = [
     ("comparison can fail", selftest.comparison_can_fail),
     ("reading of refusals can fail", selftest.refusals_can_fail),
+    ("comparison of the gate's commands can fail", selftest.gate_can_fail),
     ("document 01's examples", paper.examples),
     ("recorded scripts", paper.scripts),
     ("RFC 2289, Appendix C", passwords.appendix_c),
@@ -40,6 +41,8 @@ SECTIONS = [
     ("what docs/PROMISES.md names", promises.page),
     ("the must-fail edits' logs", refused.page),
     ("figures in README.md", docs.figures),
+    ("the gate's command", commands.same_gate),
+    ("ways to call make", commands.makes),
     ("commands in the documents", docs.commands),
 ]
 

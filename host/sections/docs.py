@@ -2,7 +2,7 @@
 import re
 import subprocess
 
-from harness import ROOT, Failed
+from harness import ROOT, Failed, typed
 from sections import refused
 
 DOCUMENTS = [ROOT / "README.md", *sorted((ROOT / "docs").glob("*.md"))]
@@ -26,7 +26,7 @@ def pattern(shown):
 
 
 def printed(command):
-    done = subprocess.run(["bash", "-c", f"set -euo pipefail; {command}"], cwd=ROOT, timeout=1800,
+    done = subprocess.run(["bash", "-c", f"set -euo pipefail; {command}"], cwd=ROOT, timeout=1800, env=typed(),
                           stdin=subprocess.DEVNULL, stdout=subprocess.PIPE, stderr=subprocess.PIPE)
     said = done.stdout.decode("latin-1")
     if done.returncode != 0:

@@ -1,7 +1,7 @@
 """That the comparison can fail: tests of the tests."""
 import harness
 from harness import Failed, call
-from sections import refused
+from sections import commands, refused
 
 
 def fails(check, *given):
@@ -46,3 +46,17 @@ def refusals_can_fail(driver):
     if not all(found):
         raise Failed(f"of the five, as they should be: {found}")
     return f"{len(found)} logs: a wrong function that is not refused by itself is reported, and nothing else"
+
+
+def gate_can_fail(driver):
+    """A flag that .ci/run has and the README has not, or the other way round, is found."""
+    readme = "## Test it\n\n```console\n$ make %stest\n```\n"
+    found = [
+        not fails(commands.same_command, readme % "", "cd ..\nexec make test\n"),
+        fails(commands.same_command, readme % "", "cd ..\nexec make --no-print-directory test\n"),
+        fails(commands.same_command, readme % "-s ", "cd ..\nexec make test\n"),
+        fails(commands.same_command, readme % "", "exec make test\ntrue\n"),
+    ]
+    if not all(found):
+        raise Failed(f"of the four, as they should be: {found}")
+    return f"{len(found)} pairs of commands: a flag in one of them is reported, and nothing else"
