@@ -2,19 +2,10 @@
  * where the library isn't installed. */
 #include "heimdal.h"
 
-#include <dlfcn.h>
-#include <string.h>
+#include "../host/symbol.h"
 
 static heimdal_library found;
 const heimdal_library *heimdal;
-
-/* ISO C has no cast from data to function: the pointer's bytes are copied. */
-static int find(void *library, const char *name, void *function)
-{
-    void *symbol = dlsym(library, name);
-    memcpy(function, &symbol, sizeof symbol);
-    return symbol != NULL;
-}
 
 void find_heimdal(void)
 {

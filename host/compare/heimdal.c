@@ -3,11 +3,12 @@
  * otp_parse, the reader of its servers, makes of those digits, and whether
  * otp_verify_user_1 lets them in at an account that waits for that very
  * password. Ends with status 3 where the library isn't installed. */
-#include <dlfcn.h>
 #include <stdint.h>
 #include <stdio.h>
 #include <string.h>
 #include <time.h>
+
+#include "../symbol.h"
 
 enum { KEY = 8, MOST_LINE = 80, ABSENT = 3 };
 
@@ -35,14 +36,6 @@ typedef struct {
 static algorithm *(*find_alg)(char *name);
 static int (*parse)(unsigned char *key, const char *text, algorithm *alg);
 static int (*verify)(account *waiting, const char *text);
-
-/* ISO C has no cast from data to function: the pointer's bytes are copied. */
-static int find(void *library, const char *name, void *function)
-{
-    void *symbol = dlsym(library, name);
-    memcpy(function, &symbol, sizeof symbol);
-    return symbol != NULL;
-}
 
 static int find_library(void)
 {

@@ -1,6 +1,6 @@
 -- The checks of an account's new values, one way through them after the other.
 use Prim.Native.Nat.{ℕ, _≤_}
-use mathlib.Core.Path.{_≡_, refl, sym, ap, _∙_}
+use mathlib.Core.Path.{_≡_, refl, sym, ap}
 use mathlib.Core.Bool.{true, false, _&&_}
 use mathlib.Core.List.{List, map}
 use native.Mathlib.Omega.{arith}
@@ -11,17 +11,18 @@ use Rattle.text.specs.Kinds.{lowerOf}
 use Rattle.refusal.specs.declared.Refusal.{Refusal}
 use Rattle.refusal.specs.declared.Checked.{Checked}
 use Rattle.refusal.specs.Checks.{unless}
-use Rattle.inputs.specs.Checks.{seedChecked}
-use Rattle.inputs.specs.Laws.{good-seed}
-use Rattle.rooms.specs.Rooms.{Room, free}
-use Rattle.accounts.specs.Accounts.{Proposal, countWithin, valuesChecked, proposed}
+use Rattle.password.specs.PhraseAndSeed.{seedChecked}
+use Rattle.password.specs.PhraseAndSeedLaws.{good-seed}
+use Rattle.accounts.specs.Rooms.{Room, free}
+use Rattle.accounts.specs.Accounts.{countWithin, valuesChecked, proposed}
 
 module _ (count : ℕ) (seed : List ℕ) (room : Room) where
   pub new-51 : (leb 2 count && leb count 9999) ≡ false → valuesChecked count seed room ≡ Checked.Refused Refusal.CountOutside
   unfolding valuesChecked
   new-51 b = rw b
 
-  pub new-seed : (why : Refusal) → (leb 2 count && leb count 9999) ≡ true → seedChecked seed ≡ Checked.Refused why → valuesChecked count seed room ≡ Checked.Refused why
+  pub new-seed : (why : Refusal) → (leb 2 count && leb count 9999) ≡ true
+      → seedChecked seed ≡ Checked.Refused why → valuesChecked count seed room ≡ Checked.Refused why
   unfolding valuesChecked
   new-seed why b e = rw (b, e)
 
@@ -45,7 +46,8 @@ module _ (count : ℕ) (seed : List ℕ) (room : Room) where
       past (Checked.Refused why) rest d = let z : _≡_ {A = ℕ} 0 1 = cc in absurd (omega arith)
 
 -- A proposal that is refused, and one that isn't.
-pub proposed-refused : (check : Checked) (why : Refusal) (room : Room) → check ≡ Checked.Refused why → record { checked = check; room = free } ≡ proposed check room
+pub proposed-refused : (check : Checked) (why : Refusal) (room : Room) → check ≡ Checked.Refused why
+    → record { checked = check; room = free } ≡ proposed check room
 proposed-refused check why room e = ap (λ (k : Checked). record { checked = check; room = unless (λ _. free) k room }) (sym e)
 
 pub proposed-good : (check : Checked) (room : Room) → check ≡ Checked.Good → record { checked = check; room = room } ≡ proposed check room

@@ -8,10 +8,10 @@ use Rattle.text.specs.Kinds.{lowerOf}
 use Rattle.refusal.specs.declared.Refusal.{Refusal}
 use Rattle.refusal.specs.declared.Checked.{Checked}
 use Rattle.refusal.specs.Checks.{unless}
-use Rattle.inputs.specs.Checks.{seedChecked}
+use Rattle.password.specs.PhraseAndSeed.{seedChecked}
 use Rattle.password.specs.Password.{numberOf}
 use Rattle.refusal.specs.Checks.{must}
-use Rattle.rooms.specs.Rooms.{Room, roomOf, free}
+use Rattle.accounts.specs.Rooms.{Room, roomOf, free}
 use Rattle.accounts.specs.declared.Proposed.{Proposed}
 
 -- Enrol and Renew: "Seeds are kept in lower case"; the password is "eight bytes".

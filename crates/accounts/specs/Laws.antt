@@ -1,16 +1,14 @@
 -- New values beside a free room: 63 is never given.
 use Prim.Native.Nat.{ℕ}
-use mathlib.Core.Path.{_≡_, refl, sym, ap, _∙_}
-use mathlib.Core.List.{List, [], _∷_, map}
+use mathlib.Core.Path.{_≡_, refl, ap}
+use mathlib.Core.List.{List, [], _∷_}
 use native.Mathlib.Omega.{arith}
 use Rattle.text.specs.Tests.{same}
-use Rattle.text.specs.Kinds.{lowerOf}
-use Rattle.refusal.specs.declared.Refusal.{Refusal}
 use Rattle.refusal.specs.declared.Checked.{Checked}
 use Rattle.refusal.specs.Checks.{unless}
-use Rattle.inputs.specs.Checks.{seedChecked}
-use Rattle.inputs.specs.Laws.{good-seed}
-use Rattle.rooms.specs.Rooms.{free}
+use Rattle.password.specs.PhraseAndSeed.{seedChecked}
+use Rattle.password.specs.PhraseAndSeedLaws.{good-seed}
+use Rattle.accounts.specs.Rooms.{free}
 use Rattle.accounts.specs.Accounts.{inOrder, countWithin, seedOther, valuesChecked}
 
 -- A good seed isn't empty.

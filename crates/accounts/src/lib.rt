@@ -1,13 +1,32 @@
-// What becomes of an account: new values at Enrol and Renew. What an account asks for, and what it becomes with the reply,
-// is in `asked`; the definitions of both are in specs/.
+// An account and its room, its seed, and what becomes of it: new values at Enrol and Renew, one count down with a reply.
 use refusal::Checked;
-use rooms::Account;
+
+// Seeds that are kept.
+mod seeds;
+// New values.
+pub mod values;
+// The challenge for an account, and the account one count down.
+pub mod lowered;
+
+// An account and its room: id 0 is a free room. The seed is the first `len` bytes, in lower case; zeros after it.
+pub struct Account {
+    pub id: u16,
+    pub seed: [u8; 16],
+    pub len: usize,
+    pub count: u16,
+    pub password: u64,
+}
+
+pub const FREE: Account = Account {
+    id: 0,
+    seed: [0u8; 16],
+    len: 0,
+    count: 0,
+    password: 0,
+};
 
 // What is found of an account's new values, and the account with them; a free room where they are refused.
 pub struct Proposed {
     pub checked: Checked,
     pub account: Account,
 }
-
-// New values.
-pub mod values;

@@ -2,18 +2,18 @@
 ghost use mathlib.Core.Path.{_≡_};
 ghost use Prim.Native.Nat.{_≤_};
 ghost use lib.ListN.{length};
-ghost use Rattle.rooms.specs.Rooms.{roomOf};
+ghost use Rattle.accounts.specs.Rooms.{roomOf};
 ghost use Rattle.accounts.specs.Accounts.{newRoom, valuesChecked, proposal, proposed};
+use crate::Account;
+use crate::FREE;
 use crate::Proposed;
-use eight_bytes::number_of;
-use inputs::check_seed;
-use inputs::put_lower;
+use crate::seeds::same_seed;
+use crate::seeds::seed_len;
+use password::eight_bytes::number_of;
+use password::inputs::check_seed;
+use password::inputs::put_lower;
 use refusal::Checked;
 use refusal::Refusal;
-use rooms::Account;
-use rooms::FREE;
-use seeds::same_seed;
-use seeds::seed_len;
 
 fn check_values(present: Account, count: u16, seed: &[u8]) -> Checked
     ensures { λ r. ⌜ r ≡ valuesChecked count (now (seed .entry)) (roomOf present) ⌝ }
@@ -53,7 +53,8 @@ fn account(id: u16, count: u16, seed: &[u8], password: &[u8; 8]) -> Account
 
 // The account with new values, in place of the present one. At Enrol that is a free room, whose seed is empty and so no other's.
 pub fn propose(present: Account, id: u16, count: u16, seed: &[u8], password: &[u8; 8]) -> Proposed
-    ensures { λ r. ⌜ proposal r ≡ proposed (valuesChecked count (now (seed .entry)) (roomOf present)) (newRoom id count (now (seed .entry)) (now (password .entry))) ⌝ }
+    ensures { λ r. ⌜ proposal r ≡ proposed (valuesChecked count (now (seed .entry)) (roomOf present))
+        (newRoom id count (now (seed .entry)) (now (password .entry))) ⌝ }
 {
     let checked = check_values(present, count, seed);
     if let Checked::Refused(_) = checked {

@@ -2,7 +2,7 @@
 ghost use mathlib.Core.Path.{_≡_};
 ghost use Prim.Native.Nat.{_+_, _*_, _<_, _≤_};
 ghost use lib.ListN.{length};
-ghost use Rattle.rfc1321.specs.Padding.{blocks, paddedByte, word, paddedWord, blockAt, little};
+ghost use Rattle.digests.specs.Padding.{blocks, paddedByte, word, paddedWord, blockAt, little};
 
 // How many blocks the padded message has.
 pub fn count(m: &[u8]) -> usize

@@ -7,6 +7,6 @@ fn main() {
     let mut input = [0u8; 257];
     let n = io::read_full(STDIN_FILENO, &mut input);
     let mut output = [0u8; 5148];
-    let m = card_answers::answer(&input[..n], &mut output);
+    let m = cards::printed::answer(&input[..n], &mut output);
     io::write_all(STDOUT_FILENO, &output[..m]);
 }

@@ -1,6 +1,6 @@
 -- The passwords of a card, filled in from the last place up the chain.
 use Prim.Native.Nat.{ℕ, suc, _+_, _-_, _≤_, _<_}
-use mathlib.Core.Path.{_≡_, refl, sym, _∙_, ap}
+use mathlib.Core.Path.{_≡_, sym, _∙_, ap}
 use mathlib.Core.List.{List}
 use native.Mathlib.Omega.{arith}
 use lib.ListN.{length, getD, set}
@@ -22,7 +22,8 @@ none-filled p k ps phrase seed low e =
     let same : low ≡ low + (k - k) = omega arith in
     (e ∙ ap (password Algorithm.md5 phrase seed) same, λ j h g. absurd (omega arith))
 
-pub one-more : (p k : ℕ) (ps : List ℕ) (x y i : ℕ) → i ≤ k → k ≤ length ps → 0 < i → y ≡ hash Algorithm.md5 (bytesOf x) → Filled p k ps x i → Filled p k (set ps (i - 1) x) y (i - 1)
+pub one-more : (p k : ℕ) (ps : List ℕ) (x y i : ℕ) → i ≤ k → k ≤ length ps → 0 < i
+    → y ≡ hash Algorithm.md5 (bytesOf x) → Filled p k ps x i → Filled p k (set ps (i - 1) x) y (i - 1)
 unfolding password
 one-more p k ps x y i h l z s f phrase seed low e =
     let known = f phrase seed low e in

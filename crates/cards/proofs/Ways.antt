@@ -1,21 +1,21 @@
 -- The card writer's answers by what the checks find, and the card's text from the walked passwords.
 use Prim.Native.Nat.{ℕ, _+_, _-_, _≤_}
-use mathlib.Core.Path.{_≡_, refl, sym, _∙_, ap}
+use mathlib.Core.Path.{_≡_, refl, _∙_, ap}
 use mathlib.Core.List.{List}
 use native.Mathlib.Omega.{arith}
 use Rattle.refusal.specs.declared.Refusal.{Refusal}
 use Rattle.refusal.specs.declared.Checked.{Checked}
 use Rattle.refusal.specs.declared.Reading.{Reading}
 use Rattle.refusal.specs.declared.Written.{Written}
-use Rattle.text.specs.Front.{writtenOf}
+use Rattle.text.specs.Put.{writtenOf}
 use Rattle.password.specs.Password.{Algorithm, password, generated}
 use Rattle.password.specs.Laws.{generated-good}
 use Rattle.challenge.specs.Challenges.{challengeOf, seedOf}
 use Rattle.challenge.specs.Laws.{read-seed-good, read-count-low}
-use Rattle.card_lines.specs.Lines.{cardText, at}
-use Rattle.card_lines.specs.Laws.{card-same}
-use Rattle.card_checks.specs.Checks.{countOf, cardChecked}
-use Rattle.card_checks.specs.Laws.{is-read, checks-good, card-bounds}
+use Rattle.cards.specs.CardLines.{cardText, at}
+use Rattle.cards.specs.CardLineLaws.{card-same}
+use Rattle.cards.specs.CardChecks.{countOf, cardChecked}
+use Rattle.cards.specs.CardCheckLaws.{is-read, checks-good, card-bounds}
 use Rattle.cards.specs.Cards.{cardOf, cardWritten}
 use Rattle.cards.specs.Inside.{Falling}
 

@@ -3,11 +3,11 @@ use Prim.Native.Nat.{ℕ}
 use mathlib.Core.List.{List}
 use Rattle.refusal.specs.declared.Written.{Written}
 use Rattle.refusal.specs.Checks.{unless}
-use Rattle.text.specs.Front.{writtenOf}
+use Rattle.text.specs.Put.{writtenOf}
 use Rattle.password.specs.Password.{Algorithm, password}
 use Rattle.challenge.specs.Challenges.{challengeOf, seedOf}
-use Rattle.card_lines.specs.Lines.{cardText}
-use Rattle.card_checks.specs.Checks.{countOf, cardChecked}
+use Rattle.cards.specs.CardLines.{cardText}
+use Rattle.cards.specs.CardChecks.{countOf, cardChecked}
 
 -- the card of a pass-phrase and a challenge
 unfoldable pub cardOf : List ℕ → List ℕ → ℕ → List ℕ

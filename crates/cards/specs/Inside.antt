@@ -4,9 +4,9 @@ use mathlib.Core.Path.{_≡_}
 use mathlib.Core.List.{List}
 use lib.ListN.{getD}
 use Rattle.refusal.specs.declared.Written.{Written}
-use Rattle.text.specs.Front.{Writes}
+use Rattle.text.specs.Put.{Writes}
 use Rattle.password.specs.Password.{Algorithm, password}
-use Rattle.card_lines.specs.Lines.{cardText}
+use Rattle.cards.specs.CardLines.{cardText}
 
 -- ps starts with k passwords in falling count, the last of them p
 abbrev pub Falling : ℕ → ℕ → List ℕ → Type 0

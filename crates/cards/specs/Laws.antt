@@ -7,9 +7,9 @@ use lib.ListN.{length}
 use Rattle.refusal.specs.declared.Checked.{Checked}
 use Rattle.password.specs.Password.{Algorithm, password}
 use Rattle.challenge.specs.Challenges.{challengeOf, seedOf}
-use Rattle.card_lines.specs.Laws.{card-length}
-use Rattle.card_checks.specs.Checks.{countOf, cardChecked}
-use Rattle.card_checks.specs.Laws.{card-bounds}
+use Rattle.cards.specs.CardLineLaws.{card-length}
+use Rattle.cards.specs.CardChecks.{countOf, cardChecked}
+use Rattle.cards.specs.CardCheckLaws.{card-bounds}
 use Rattle.cards.specs.Cards.{cardOf}
 
 -- "The largest card is 99 lines of 52 bytes"

@@ -1,6 +1,6 @@
 -- 01, Challenges: steps 1 to 5, "from left to right; the first fault is the answer", and what the writer writes.
 use Prim.Native.Nat.{ℕ, _+_}
-use mathlib.Core.Bool.{Bool, true, false, cond, _&&_, _||_}
+use mathlib.Core.Bool.{Bool, false, cond, _||_}
 use mathlib.Core.List.{List, [], _∷_, _++_, map}
 use lib.Dec.{ltb, eqb}
 use lib.ListN.{length, take, drop}
@@ -11,12 +11,12 @@ use Rattle.refusal.specs.Checks.{unless, must}
 use Rattle.text.specs.Kinds.{inToken, isBlank, lowerOf}
 use Rattle.text.specs.Scan.{runOf}
 use Rattle.text.specs.Digits.{numberOf}
-use Rattle.text.specs.Front.{writtenOf}
+use Rattle.text.specs.Put.{writtenOf}
 use Rattle.text.specs.Tests.{same}
 use Rattle.text.specs.Quoted.{codes}
-use Rattle.inputs.specs.Checks.{seedChecked}
+use Rattle.password.specs.PhraseAndSeed.{seedChecked}
 use Rattle.challenge.specs.declared.reading.Challenge.{Challenge}
-use Rattle.counts.specs.Counts.{isCount, decimalOf}
+use Rattle.text.specs.Counts.{isCount, decimalOf}
 
 -- "the four bytes `otp-` in lower case"
 unfoldable pub opening : List ℕ

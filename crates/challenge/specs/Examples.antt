@@ -7,9 +7,9 @@ use Rattle.text.specs.Scan.{runOf}
 use Rattle.text.specs.Digits.{numberAfter}
 use Rattle.text.specs.Quoted.{codes}
 use Rattle.text.specs.Tests.{every, same}
-use Rattle.inputs.specs.Checks.{plain}
+use Rattle.password.specs.PhraseAndSeed.{plain}
 use Rattle.challenge.specs.declared.reading.Challenge.{Challenge}
-use Rattle.counts.specs.Counts.{isCount}
+use Rattle.text.specs.Counts.{isCount}
 use Rattle.challenge.specs.Challenges.{opening, algorithm, tokenAt, nextAt, countAt, seedAt, challengeOf, seedOf}
 
 -- what a challenge says, and its seed

@@ -4,7 +4,7 @@ use mathlib.Core.List.{List}
 use lib.ListN.{length, drop}
 use Rattle.refusal.specs.declared.Refusal.{Refusal}
 use Rattle.refusal.specs.Checks.{unless, must}
-use Rattle.inputs.specs.Checks.{seedChecked}
+use Rattle.password.specs.PhraseAndSeed.{seedChecked}
 use Rattle.challenge.specs.declared.reading.Challenge.{Challenge}
 use Rattle.challenge.specs.Challenges.{tokenAt, endOf, terminated}
 

@@ -16,11 +16,31 @@ use Rattle.text.specs.Digits.{numberOf}
 use Rattle.text.specs.Scan.{runOf}
 use Rattle.text.specs.ScanLaws.{run-within}
 use Rattle.text.specs.Tests.{same, same-equal}
-use Rattle.inputs.specs.Checks.{seedChecked}
-use Rattle.counts.specs.Counts.{isCount, widthOf}
-use Rattle.counts.specs.Laws.{count-low, length-decimal}
+use Rattle.password.specs.PhraseAndSeed.{seedChecked}
+use Rattle.text.specs.Counts.{isCount, widthOf}
+use Rattle.text.specs.CountLaws.{count-low, length-decimal}
 use Rattle.challenge.specs.declared.reading.Challenge.{Challenge}
-use Rattle.challenge.specs.Challenges.{opening, algorithm, challengeText, tokenAt, endOf, nextAt, countAt, seedAt, terminated, step1, step2, step3, step4, step5, found, challengeOf, startOf, lengthOf, seedOf}
+use Rattle.challenge.specs.Challenges.{
+  opening,
+  algorithm,
+  challengeText,
+  tokenAt,
+  endOf,
+  nextAt,
+  countAt,
+  seedAt,
+  terminated,
+  step1,
+  step2,
+  step3,
+  step4,
+  step5,
+  found,
+  challengeOf,
+  startOf,
+  lengthOf,
+  seedOf,
+}
 use Rattle.challenge.specs.Inside.{seedFrom}
 
 -- ---- tokens and their places
@@ -49,7 +69,8 @@ opened-long text e = omega (arith, length-take 4 text, ap length (same-equal (ta
 
 module _ (n s l u : ℕ) where
   -- an answer past a check that is a challenge means that the check found nothing wrong
-  past-check : (k : Checked) (next : Challenge) → unless Challenge.Refused k next ≡ Challenge.Read n s l u → (k ≡ Checked.Good) × (next ≡ Challenge.Read n s l u)
+  past-check : (k : Checked) (next : Challenge) → unless Challenge.Refused k next ≡ Challenge.Read n s l u
+      → (k ≡ Checked.Good) × (next ≡ Challenge.Read n s l u)
   past-check Checked.Good next e = (refl, e)
   past-check (Checked.Refused why) next e = let z : _≡_ {A = ℕ} 0 1 = cc in absurd (omega arith)
 
@@ -79,7 +100,8 @@ module _ (n s l u : ℕ) where
 
     seed-within : seedAt text ≤ length text
     unfolding countAt seedAt
-    seed-within = next-within text (countAt text) (next-within text 4 (opened-long text (must-good (same (take 4 text) opening) Refusal.OpeningWrong (good .0))))
+    seed-within = next-within text (countAt text) (next-within text 4
+        (opened-long text (must-good (same (take 4 text) opening) Refusal.OpeningWrong (good .0))))
 
     -- its seed lies within the text
     pub part-within : s + l ≤ length text

@@ -2,5 +2,4 @@
 pub mod Challenges
 pub mod Inside
 pub mod Laws
-pub mod ReadBack
 pub mod Examples

@@ -1,4 +1,6 @@
-// Challenges, as they are read. Document 01, 'Challenges'.
+// Challenges, read and written. Document 01, 'Challenges'.
 
 // What a challenge says, and its seed as a part of it.
 pub mod reading;
+// A challenge for a seed and a count: single spaces, the seed in lower case, a newline.
+pub mod writing;

@@ -3,16 +3,16 @@ ghost use mathlib.Core.Path.{_≡_};
 ghost use Prim.Native.Nat.{_+_, _≤_};
 ghost use lib.ListN.{length, take, drop};
 ghost use Rattle.text.specs.Tests.{same as sameText};
-ghost use Rattle.counts.specs.Counts.{countedOf};
+ghost use Rattle.text.specs.Counts.{countedOf};
 ghost use Rattle.challenge.specs.Challenges as spec;
 ghost use Rattle.challenge.specs.Inside as inside;
-use counts::Counted;
-use counts::read_count;
-use inputs::check_seed;
+use password::inputs::check_seed;
 use refusal::Checked;
 use refusal::Refusal;
-use scan::run;
+use text::counts::Counted;
+use text::counts::read_count;
 use text::kinds::Kind;
+use text::scan::run;
 
 // The four bytes that every challenge starts with, and the name of its algorithm.
 pub const OPENING: [u8; 4] = [b'o', b't', b'p', b'-'];
@@ -131,7 +131,8 @@ pub fn read(text: &[u8]) -> Challenge
 
 // The seed, as the part of the text where it stands; after a refusal the empty part at the start.
 pub fn seed_of(text: &[u8]) -> &[u8]
-    ensures { λ r. ⌜ (now r ≡ spec.seedOf (now (text .entry))) × (r .ptr .0 ≡ text .entry .ptr .0) × (r .ptr .1 ≡ spec.startOf (spec.challengeOf (now (text .entry))) + text .entry .ptr .1) ⌝ }
+    ensures { λ r. ⌜ (now r ≡ spec.seedOf (now (text .entry))) × (r .ptr .0 ≡ text .entry .ptr .0)
+        × (r .ptr .1 ≡ spec.startOf (spec.challengeOf (now (text .entry))) + text .entry .ptr .1) ⌝ }
 {
     match read(text) {
         Challenge::Read {

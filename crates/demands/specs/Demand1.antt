@@ -6,20 +6,20 @@ use mathlib.Core.List.{List, [], _∷_}
 use Rattle.refusal.specs.declared.Refusal.{Refusal}
 use Rattle.refusal.specs.declared.Reading.{Reading}
 use Rattle.refusal.specs.Numbers.{listingOf}
-use Rattle.digest.specs.Digest.{digestOf}
+use Rattle.md5.specs.Digest.{digestOf}
 use Rattle.password.specs.Password.{Algorithm, generated}
 use Rattle.challenge.specs.Challenges.{challengeOf, challengeWritten}
 use Rattle.cards.specs.Cards.{cardWritten}
 use Rattle.reply.specs.Reading.{readingOf}
-use Rattle.controller.specs.Table.{State}
-use Rattle.tables.specs.Calls.{Call, Answer, answer, after}
-use Rattle.demands.specs.Turns.{Reached}
-use Rattle.demands.specs.Listed.{isIn, listed, refusalsOf, Within, ReadWithin, ChallengeWithin, WriteWithin, Given}
-use Rattle.demands.specs.Each.{Each}
-use Rattle.demands.specs.Given.{numbers-given}
-use Rattle.demands.specs.Keeps.{made}
-use Rattle.demands.specs.Refusing.{reading-within, call-within, generated-within, challenge-read-within, challenge-written-within, digest-within, card-within}
-use Rattle.demands.specs.Unchanged.{refused-unchanged, word-place}
+use Rattle.table.specs.Table.{State}
+use Rattle.reached.specs.Calls.{Call, Answer, answer, after}
+use Rattle.reached.specs.InTurn.{Reached}
+use Rattle.grounds.specs.Listed.{isIn, listed, refusalsOf, Within, ReadWithin, ChallengeWithin, WriteWithin, Given}
+use Rattle.reached.specs.Each.{Each}
+use Rattle.grounds.specs.Given.{numbers-given}
+use Rattle.grounds.specs.Keeps.{made}
+use Rattle.grounds.specs.Refusing.{reading-within, call-within, generated-within, challenge-read-within, challenge-written-within, digest-within, card-within}
+use Rattle.grounds.specs.Unchanged.{refused-unchanged, word-place}
 
 -- Each refusal's number is in the list.
 pub refusal-listed : (why : Refusal) → isIn (listingOf why .0) listed ≡ true

@@ -12,22 +12,22 @@ use Rattle.refusal.specs.declared.Reading.{Reading}
 use Rattle.refusal.specs.declared.Written.{Written}
 use Rattle.text.specs.Kinds.{lowerOf}
 use Rattle.text.specs.Scan.{tokens, unspaced}
-use Rattle.text.specs.Front.{Writes}
-use Rattle.inputs.specs.Checks.{phraseChecked, seedChecked}
+use Rattle.text.specs.Put.{Writes}
+use Rattle.password.specs.PhraseAndSeed.{phraseChecked, seedChecked}
 use Rattle.password.specs.Password.{Algorithm, password, generated}
 use Rattle.password.specs.Laws.{generated-good}
 use Rattle.challenge.specs.declared.reading.Challenge.{Challenge}
-use Rattle.counts.specs.Counts.{widthOf, decimalOf}
+use Rattle.text.specs.Counts.{widthOf, decimalOf}
 use Rattle.challenge.specs.Challenges.{challengeOf, seedOf, challengeText}
-use Rattle.challenge.specs.ReadBack.{written-read, written-seed-read}
+use Rattle.readback.specs.ChallengeRead.{written-read, written-seed-read}
 use Rattle.hex.specs.Hex.{hexOf}
-use Rattle.spelling.specs.Spelling.{sixWordsOf, wordsOf}
+use Rattle.sixwords.specs.Spelling.{sixWordsOf, wordsOf}
 use Rattle.reply.specs.Reading.{sixWords, upperText, readingOf}
-use Rattle.readback.specs.Replies as Laws
-use Rattle.card_lines.specs.Lines.{cardText}
-use Rattle.card_checks.specs.Checks.{countOf, cardChecked}
+use Rattle.readback.specs.ReplyRead as Laws
+use Rattle.cards.specs.CardLines.{cardText}
+use Rattle.cards.specs.CardChecks.{countOf, cardChecked}
 use Rattle.cards.specs.Cards.{cardOf}
-use Rattle.readback.specs.Cards as CardLaws
+use Rattle.readback.specs.CardRead as CardLaws
 use Rattle.password.specs.Bounds.{password-bound}
 
 -- "what we write we read back as the same password": the hex that was written at the front of a buffer, and the words.

@@ -6,19 +6,19 @@ use mathlib.Core.List.{List}
 use lib.ListN.{length}
 use Rattle.refusal.specs.declared.Checked.{Checked}
 use Rattle.text.specs.Tests.{every}
-use Rattle.inputs.specs.Checks.{phraseChecked}
+use Rattle.password.specs.PhraseAndSeed.{phraseChecked}
 use Rattle.password.specs.Password.{Algorithm, password}
-use Rattle.rooms.specs.Rooms.{Room}
-use Rattle.controller.specs.Table.{State, accountOf, turnId}
+use Rattle.accounts.specs.Rooms.{Room}
+use Rattle.table.specs.Table.{State, accountOf, turnId}
 use Rattle.challenge.specs.Challenges.{challengeText}
-use Rattle.controller.specs.Steps.{join, challengeFor}
-use Rattle.tables.specs.Calls.{Call, after, run}
-use Rattle.demands.specs.Turns.{Reached, ticks, quiet, quietMeanwhile, HasTurn, TurnBegins}
-use Rattle.demands.specs.Day.{Day}
-use Rattle.demands.specs.Reach.{wait-ends, all-meanwhile, joined-waits, reached-run, reached-after}
-use Rattle.demands.specs.Keeps.{made}
-use Rattle.demands.specs.Owned.{call-keeps, turn-keeps}
-use Rattle.demands.specs.Answering.{day}
+use Rattle.table.specs.Steps.{join, challengeFor}
+use Rattle.reached.specs.Calls.{Call, after, run}
+use Rattle.reached.specs.InTurn.{Reached, ticks, quiet, quietMeanwhile, HasTurn, TurnBegins}
+use Rattle.reached.specs.Day.{Day}
+use Rattle.grounds.specs.TurnComes.{wait-ends, all-meanwhile, joined-waits, reached-run, reached-after}
+use Rattle.grounds.specs.Keeps.{made}
+use Rattle.grounds.specs.Owned.{call-keeps, turn-keeps}
+use Rattle.grounds.specs.Answering.{day}
 
 -- "From a fresh table, after any calls, a port that joins successfully has its turn begin by the 180th tick, if its account
 -- isn't removed and the port only looks at its challenge meanwhile, whatever other ports do."

@@ -8,12 +8,12 @@ use Rattle.text.specs.Tests.{every}
 use Rattle.text.specs.Scan.{runOf, parted, unspaced}
 use Rattle.text.specs.Digits as Digits
 use Rattle.text.specs.Quoted.{codes}
-use Rattle.inputs.specs.Checks.{plain}
+use Rattle.password.specs.PhraseAndSeed.{plain}
 use Rattle.dictionary.specs.Words.{wordsIn, lines, words}
 use Rattle.dictionary.specs.Dictionary.{standsFrom, placeOf}
 use Rattle.sixwords.specs.Places.{pairs, pairSum, whole, cut, placesOf, joined, allPlaces, numberOf}
 use Rattle.challenge.specs.declared.reading.Challenge.{Challenge}
-use Rattle.counts.specs.Counts.{isCount}
+use Rattle.text.specs.Counts.{isCount}
 use Rattle.challenge.specs.Challenges.{opening, algorithm, tokenAt, nextAt, countAt, seedAt, challengeOf, seedOf}
 use Rattle.text.specs.Tests.{same}
 use Rattle.hex.specs.Hex.{sixteenDigits, hexReading}
@@ -71,5 +71,7 @@ examples =
     (replyFor (codes "85C4 3EE0 3857 765"), reply (Reading.Refused Refusal.ReplyUnread)) ∷ []
 
 pub examples-hold : map (λ (e : Asked × Said). said (e .0)) examples ≡ map (λ (e : Asked × Said). e .1) examples
-unfolding codes runOf Digits.numberAfter every plain isCount opening algorithm same tokenAt nextAt countAt seedAt challengeOf readingOf sixWords isWord foundAfter sixteenDigits hexReading parted unspaced wordsIn lines words flatten standsFrom placeOf pairs pairSum whole cut placesOf joined allPlaces numberOf
+unfolding codes runOf Digits.numberAfter every plain isCount opening algorithm same tokenAt nextAt countAt seedAt challengeOf
+    readingOf sixWords isWord foundAfter sixteenDigits hexReading parted unspaced wordsIn lines words flatten standsFrom placeOf
+    pairs pairSum whole cut placesOf joined allPlaces numberOf
 examples-hold = refl

@@ -1,31 +1,9 @@
 -- The letter's demands as theorems: Demand1, Demand2, Demand3, with Tight, OneStep, Tables and Examples. Their words are in Listed, Turns, Day,
 -- Made and Each; the rest is how they are proved.
-pub mod Turns
-pub mod Day
-pub mod Each
-pub mod Made
-pub mod Good
-pub mod Rooms
-pub mod Outcome
-pub mod Standing
-pub mod Few
-pub mod Moved
-pub mod Wait
-pub mod Waits
-pub mod Reach
-pub mod Keeps
-pub mod Owned
-pub mod Replies
-pub mod Answering
-pub mod Listed
-pub mod Refusing
-pub mod Unchanged
-pub mod Given
 pub mod Demand1
 pub mod Demand2
 pub mod Examples
 pub mod Tight
-pub mod Tables
+pub mod TablesMade
 pub mod OneStep
-pub mod Determined
 pub mod Demand3

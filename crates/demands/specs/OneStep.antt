@@ -2,11 +2,11 @@
 use Prim.Native.Nat.{ℕ}
 use mathlib.Core.Path.{_≡_}
 use mathlib.Core.List.{List}
-use Rattle.controller.specs.declared.Replied.{Replied}
-use Rattle.controller.specs.Table.{State, accountOf, turnId}
-use Rattle.controller.specs.Steps.{reply}
-use Rattle.demands.specs.Day.{SteppedDown}
-use Rattle.demands.specs.Replies.{reply-taken, taken-steps-down}
+use Rattle.table.specs.declared.Replied.{Replied}
+use Rattle.table.specs.Table.{State, accountOf, turnId}
+use Rattle.table.specs.Steps.{reply}
+use Rattle.reached.specs.Day.{SteppedDown}
+use Rattle.grounds.specs.Replies.{reply-taken, taken-steps-down}
 
 -- On any table: an accepted reply is answered with the new count, which is the old one less 1, and the password that was stored is
 -- the hash of the one that is stored then.

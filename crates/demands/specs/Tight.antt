@@ -4,20 +4,20 @@ use native.Mathlib.Omega.{arith}
 use native.Mathlib.Nat.{add-comm}
 use native.Mathlib.Numerals.{add-one}
 use mathlib.Core.Path.{_≡_, refl, sym, ap, _∙_}
-use mathlib.Core.Bool.{Bool, true, false, true≢false, not}
+use mathlib.Core.Bool.{Bool, true, true≢false, not}
 use mathlib.Core.List.{List, [], _∷_, _++_}
 use borrow.Author.Tests.{not-true}
 use lib.ListN.{replicate}
 use Rattle.refusal.specs.declared.Checked.{Checked}
 use Rattle.text.specs.Tests.{every, every-at}
-use Rattle.rfc1321.specs.Lists.{upTo, length-upTo, getD-upTo}
-use Rattle.inputs.specs.Checks.{plain}
+use Rattle.digests.specs.Lists.{upTo, length-upTo, getD-upTo}
+use Rattle.password.specs.PhraseAndSeed.{plain}
 use Rattle.line.specs.Line.{some, joined, others, turnWithout, without, ticked}
-use Rattle.rooms.specs.Rooms.{placeOf}
-use Rattle.controller.specs.Table.{fresh, hasTurn}
-use Rattle.controller.specs.Steps.{enrolChecked, enrol, joinChecked, join, tick}
-use Rattle.tables.specs.Calls.{Call, run}
-use Rattle.demands.specs.Turns.{tickOf, ticks, TurnBegins}
+use Rattle.accounts.specs.Rooms.{placeOf}
+use Rattle.table.specs.Table.{fresh, hasTurn}
+use Rattle.table.specs.Steps.{enrolChecked, enrol, joinChecked, join, tick}
+use Rattle.reached.specs.Calls.{Call, run}
+use Rattle.reached.specs.InTurn.{tickOf, ticks, TurnBegins}
 
 -- An account, and three ports in line for it.
 abbrev pub threeWait : List Call

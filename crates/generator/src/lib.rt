@@ -4,24 +4,28 @@ ghost use mathlib.Core.List.{_++_, map};
 ghost use Prim.Native.Nat.{_+_, _≤_};
 ghost use lib.ListN.{length};
 ghost use Rattle.text.specs.Kinds.{lowerOf};
-ghost use Rattle.text.specs.Front.{Put};
+ghost use Rattle.text.specs.Put.{Put};
 ghost use Rattle.password.specs.Password as spec;
 ghost use Rattle.generator.specs.Inside.{chained};
-use chain::hash;
-use chain::step;
-use inputs::check_phrase;
-use inputs::check_seed;
+use crate::hashing::hash;
+use password::inputs::check_phrase;
+use password::inputs::check_seed;
 use refusal::Checked;
 use refusal::Reading;
 use refusal::Refusal;
+
+// The folded hash of a message, and of a password: one step of the chain.
+mod hashing;
+
+pub use crate::hashing::step;
 
 // What is hashed at count 0: the seed in lower case, followed by the pass-phrase.
 fn put_message(buf: &mut [u8], phrase: &[u8], seed: &[u8]) -> usize
     requires { ⌜ length (now seed) + length (now phrase) ≤ length (now buf) ⌝ }
     ensures { λ r. ⌜ Put (map lowerOf (now (seed .entry)) ++ now (phrase .entry)) (now (buf .entry)) (now (buf .exit)) r ⌝ }
 {
-    let a = inputs::put_lower(buf, seed);
-    a + put::copy(&mut buf[a..], phrase)
+    let a = password::inputs::put_lower(buf, seed);
+    a + text::put::copy(&mut buf[a..], phrase)
 }
 
 // The password at count 0. The longest message is 16 bytes and 63.

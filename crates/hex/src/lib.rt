@@ -1,12 +1,12 @@
 // A password as sixteen hex digits, written and read. Document 01, 'Six words and hex'.
-use put::spell;
 use refusal::Reading;
 use refusal::Refusal;
 use refusal::Written;
-use scan::digit_value;
 use text::kinds::is_white;
+use text::put::spell;
+use text::scan::digit_value;
 ghost use mathlib.Core.Path.{_≡_};
-ghost use Rattle.text.specs.Front.{Writes};
+ghost use Rattle.text.specs.Put.{Writes};
 ghost use Rattle.text.specs.Scan.{unspaced};
 ghost use Rattle.hex.specs.Hex.{hexOf, hexReading};
 

@@ -1,2 +1,3 @@
 -- What the proofs of `line`'s functions share.
-pub mod Places
+pub mod Placed
+pub mod Joined

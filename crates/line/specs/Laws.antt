@@ -3,14 +3,14 @@ use Prim.Native.Nat.{ℕ, zero, suc, _+_, _-_, _≤_, _<_}
 use mathlib.Core.Path.{_≡_, refl, sym, ap, _∙_}
 use mathlib.Core.Bool.{Bool, true, false, cond}
 use mathlib.Core.List.{List, [], _∷_, _++_, map}
-use borrow.Author.Tests.{lt-ltb, eq-eqb, ne-eqb}
+use borrow.Author.Tests.{eq-eqb, ne-eqb}
 use native.Mathlib.Omega.{arith}
 use native.Mathlib.Numerals.{add-one}
 use lib.ListN.{length, getD, take, length-map}
 use lib.Seq.{take-suc}
 use Rattle.line.specs.declared.Place.{Place}
 use Rattle.line.specs.declared.Front.{Front}
-use Rattle.line.specs.Line.{Waiting, others, first, frontOf, start, joined, turnJoined, turnWithout, without, left, ticked, tickedFront}
+use Rattle.line.specs.Line.{Waiting, others, first, frontOf, start, joined, turnWithout, without, left, ticked, tickedFront}
 
 -- The length of an array of structs, from that of its rows: what is known of such a field where a function starts.
 pub unmapped {ℓ ℓ′} : {A : Type ℓ} {B : Type ℓ′} (f : A → B) (l : List A) (n : ℕ) → length (map f l) ≡ n → length l ≡ n

@@ -2,7 +2,10 @@
 ghost use mathlib.Core.Path.{_≡_};
 ghost use Prim.Native.Nat.{_≤_};
 ghost use lib.ListN.{length};
-ghost use Rattle.line.specs.Line.{waiting, empty, standsIn, frontOf};
+ghost use Rattle.line.specs.Line.{waiting, empty, standsIn, frontOf, joined};
+
+// Leaving a line, and the turn of those that stay.
+pub mod departing;
 
 // A port in line, with the id of the account that it waits for.
 pub struct Place {
@@ -33,7 +36,7 @@ pub fn fresh() -> Line
 }
 
 // How many wait.
-pub fn count(line: Line) -> usize
+fn count(line: Line) -> usize
     ensures { λ r. ⌜ (r ≡ length (waiting line .places)) × (r ≤ 4) × (r ≤ line .len) ⌝ }
 {
     if line.len < 4 { line.len } else { 4 }
@@ -63,4 +66,29 @@ pub fn front_of(line: Line) -> Front
     }
     let places = line.places;
     Front::At(places[0])
+}
+
+// The port goes to the back.
+pub fn join(line: Line, port: u8, id: u16) -> Line
+    ensures { λ r. ⌜ waiting r ≡ joined port id (waiting line) ⌝ }
+{
+    let n = count(line);
+    if 3 < n {
+        return line;
+    }
+    let mut places = line.places;
+    places[n] = Place { port, id };
+    if n == 0 {
+        let turn = 60;
+        return Line {
+            places,
+            len: 1,
+            turn,
+        };
+    }
+    Line {
+        places,
+        len: n + 1,
+        turn: line.turn,
+    }
 }

@@ -5,10 +5,10 @@ use mathlib.Core.Path.{_≡_, refl}
 use mathlib.Core.List.{List, [], _∷_, map}
 use Rattle.refusal.specs.declared.Refusal.{Refusal}
 use Rattle.refusal.specs.declared.Written.{Written}
-use Rattle.rooms.specs.Rooms.{placeOf}
+use Rattle.accounts.specs.Rooms.{placeOf}
 use Rattle.line.specs.Line.{some}
-use Rattle.controller.specs.Table.{fresh}
-use Rattle.controller.specs.Steps.{refused, replyRefused, remove, joinChecked, join, leaveChecked, leave, turnChecked, challenge, reply, renewChecked, renew}
+use Rattle.table.specs.Table.{fresh}
+use Rattle.table.specs.Steps.{refused, replyRefused, remove, joinChecked, join, leaveChecked, leave, turnChecked, challenge, reply, renewChecked, renew}
 
 -- Account 1 is not there: 54. Nor is port 4: 55.
 pub remove-empty : remove 1 fresh ≡ refused fresh Refusal.AccountMissing

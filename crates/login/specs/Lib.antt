@@ -1,2 +1,3 @@
 -- What a table with no account answers.
 pub mod Empty
+pub mod Inside

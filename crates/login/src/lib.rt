@@ -1,6 +1,20 @@
-// The login table of one controller by its outer names: the table, and its eight calls.
+// The login table's eight calls, by the names of document 01, 'Table, ports and turns'. A table goes in by value and comes
+// back beside the answer.
 
-// The table, and what its calls answer.
-pub mod table;
-// The eight calls on a table, which goes in by value and comes back beside the answer.
-pub mod calls;
+// Enrol and Remove.
+mod enrolling;
+// Join.
+mod joining;
+// Leave.
+mod leaving;
+// Tick.
+mod ticking;
+
+pub use crate::enrolling::enrol;
+pub use crate::enrolling::remove;
+pub use crate::joining::join;
+pub use crate::leaving::leave;
+pub use crate::ticking::tick;
+pub use turns::challenge;
+pub use turns::renew;
+pub use turns::reply;

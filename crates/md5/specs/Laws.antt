@@ -6,8 +6,8 @@ use native.Mathlib.Nat.{div-add-mod'}
 use native.Mathlib.Omega.{arith}
 use lib.ListN.{length}
 use lib.Pow.{shr-shr}
-use Rattle.rfc1321.specs.Padding.{word, little}
-use Rattle.rfc1321.specs.Md5.{md5, bytes4}
+use Rattle.digests.specs.Padding.{word, little}
+use Rattle.digests.specs.Md5.{md5, bytes4}
 
 pub length-md5 : (m : List ℕ) → length (md5 m) ≡ 16
 unfolding md5

@@ -3,8 +3,9 @@ ghost use mathlib.Core.Path.{_≡_};
 ghost use mathlib.Core.List.{_++_};
 ghost use Prim.Native.Nat.{_≤_};
 ghost use lib.ListN.{length};
-ghost use Rattle.rfc1321.specs.Rounds.{compressed};
-ghost use Rattle.rfc1321.specs.Md5 as spec;
+ghost use Rattle.digests.specs.Rounds.{compressed};
+ghost use Rattle.digests.specs.Md5 as spec;
+use crate::rounds::mixed;
 use crate::sums::CONSTANTS_1;
 use crate::sums::CONSTANTS_2;
 use crate::sums::CONSTANTS_3;
@@ -14,8 +15,7 @@ use crate::sums::ORDER_2;
 use crate::sums::ORDER_3;
 use crate::sums::ORDER_4;
 use crate::sums::sums;
-use rfc1321::State;
-use rounds::mixed;
+use digests::State;
 
 // The registers after the block w.
 fn compress(w: [u32; 16], q: State) -> State

@@ -1,7 +1,7 @@
 // RFC 1321, 3.4: what each operation of a round adds, message word and constant.
 ghost use mathlib.Core.Path.{_≡_};
 ghost use mathlib.Core.Bool.{true};
-ghost use Rattle.rounds.specs.Turns as code;
+ghost use Rattle.md5.specs.Sums as code;
 ghost use Rattle.md5.specs.Inside as inside;
 
 // Which message word each operation of a round takes: the k of the RFC's [abcd k s i].

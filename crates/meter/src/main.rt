@@ -1,14 +1,13 @@
 // Repeats one call of the login table, for the benchmark: the call's letter, 0, 1 or 3 for 0, 1 or 32 accounts, and how many thousand times.
-use chain::step;
-use counts::Counted;
-use eight_bytes::bytes_of;
 use generator::generate;
+use generator::step;
 use libc::STDIN_FILENO;
 use libc::STDOUT_FILENO;
-use login::calls;
-use login::table::Table;
-use login::table::fresh;
+use password::eight_bytes::bytes_of;
 use refusal::Reading;
+use table::Table;
+use table::fresh;
+use text::counts::Counted;
 
 // The password of document 01's card at that count; the one at count 99 is presented here.
 fn password_at(count: u32) -> u64 {
@@ -25,7 +24,7 @@ fn table_of(accounts: u16) -> Table {
     let mut id = 0;
     while id < accounts {
         id += 1;
-        let enrolled = calls::enrol(t, id, 100, b"AValidSeed", &stored);
+        let enrolled = login::enrol(t, id, 100, b"AValidSeed", &stored);
         t = enrolled.table;
     }
     t
@@ -34,7 +33,7 @@ fn table_of(accounts: u16) -> Table {
 // Challenge leaves the table as it is: the first byte that was written stands in for a change.
 fn challenged(table: Table, port: u8) -> Table {
     let mut buf = [0u8; 64];
-    calls::challenge(table, port, &mut buf);
+    login::challenge(table, port, &mut buf);
     let rooms = table.rooms;
     let ports = table.ports;
     let mut line = table.line;
@@ -45,15 +44,15 @@ fn challenged(table: Table, port: u8) -> Table {
 fn once(call: u8, table: Table, port: u8, id: u16) -> Table {
     let stored = [7u8; 8];
     match call {
-        b'e' => calls::enrol(table, 1000, 99, b"AValidSeed", &stored).table,
-        b'r' => calls::remove(table, id).table,
-        b'j' => calls::join(table, port, id).table,
-        b'l' => calls::leave(table, port).table,
+        b'e' => login::enrol(table, 1000, 99, b"AValidSeed", &stored).table,
+        b'r' => login::remove(table, id).table,
+        b'j' => login::join(table, port, id).table,
+        b'l' => login::leave(table, port).table,
         b'c' => challenged(table, port),
-        b'h' => calls::reply(table, port, b"85C4 3EE0 3857 765B").table,
-        b'w' => calls::reply(table, port, b"FOWL KID MASH DEAD DUAL OAF").table,
-        b'n' => calls::renew(table, port, 99, b"dog2", &stored, b"85C4 3EE0 3857 765B").table,
-        b't' => calls::tick(table),
+        b'h' => login::reply(table, port, b"85C4 3EE0 3857 765B").table,
+        b'w' => login::reply(table, port, b"FOWL KID MASH DEAD DUAL OAF").table,
+        b'n' => login::renew(table, port, 99, b"dog2", &stored, b"85C4 3EE0 3857 765B").table,
+        b't' => login::tick(table),
         _ => table,
     }
 }
@@ -86,7 +85,7 @@ fn hashes(times: u64) -> u64 {
 fn measure(call: u8, accounts: u16, times: u64) {
     let mut start = table_of(accounts);
     if (call != b'e') & (call != b'r') & (call != b'j') {
-        let joined = calls::join(start, 0, accounts);
+        let joined = login::join(start, 0, accounts);
         start = joined.table;
     }
     let last = repeat(call, start, accounts, times);
@@ -102,7 +101,7 @@ fn main() {
     if n < 3 {
         return;
     }
-    let Counted::Is(thousands) = counts::read_count(&input[2..n]) else {
+    let Counted::Is(thousands) = text::counts::read_count(&input[2..n]) else {
         return;
     };
     let accounts = match input[1] {

@@ -1,11 +1,110 @@
 // The functions that the panel firmware calls from C (include/lift.h): numbers and byte slices only.
 // Each is a thin cover of a proved function, with its answer laid out as a C struct.
+ghost use Rattle.cards.specs.Cards.{cardOf, cardWritten};
+ghost use Rattle.challenge.specs.Challenges.{challengeOf, challengeText, challengeWritten};
+ghost use Rattle.digests.specs.Md5.{md5};
+ghost use Rattle.hex.specs.Hex.{hexOf};
+ghost use Rattle.md5.specs.Digest.{digestOf};
+ghost use Rattle.panel.specs.Answers.{challengeRow, readingRow, Reported};
+ghost use Rattle.password.specs.Password as Password;
+ghost use Rattle.password.specs.Password.{numberOf, bytesOf};
+ghost use Rattle.reply.specs.Reading.{readingOf};
+ghost use Rattle.sixwords.specs.Spelling.{wordsOf};
+ghost use Rattle.text.specs.Put.{writtenOf};
+ghost use lib.ListN.{length};
+ghost use mathlib.Core.Path.{_≡_};
+use crate::structs::LiftChallenge;
+use crate::structs::LiftReading;
+use crate::structs::LiftWritten;
+use crate::structs::challenge_row;
+use crate::structs::reading_row;
+use crate::structs::written_row;
+
+// Answers as C sees them.
+mod structs;
+
+// MD5 and the generator.
+
+#[no_mangle]
+pub extern "C" fn lift_md5(text: &[u8], digest: &mut [u8]) -> LiftWritten
+    ensures { λ r. ⌜ Reported (digestOf (now (text .entry)) (length (now (digest .entry))))
+        (md5 (now (text .entry))) (now (digest .entry)) (now (digest .exit)) r ⌝ }
+{
+    written_row(md5::digest::digest(text, digest))
+}
+
+#[no_mangle]
+pub extern "C" fn lift_password(phrase: &[u8], seed: &[u8], count: u32) -> LiftReading
+    ensures { λ r. ⌜ r ≡ readingRow (Password.generated Password.md5 (now (phrase .entry)) (now (seed .entry)) count) ⌝ }
+{
+    reading_row(generator::generate(phrase, seed, count))
+}
+
+// Replies: reading one, writing one as hex or as words, and a password's eight bytes.
+
+#[no_mangle]
+pub extern "C" fn lift_read_reply(text: &[u8]) -> LiftReading
+    ensures { λ r. ⌜ r ≡ readingRow (readingOf (now (text .entry))) ⌝ }
+{
+    reading_row(reply_reader::read(text))
+}
+
+#[no_mangle]
+pub extern "C" fn lift_write_hex(password: u64, buf: &mut [u8]) -> LiftWritten
+    ensures { λ r. ⌜ Reported (writtenOf (length (now (buf .entry))) (hexOf password)) (hexOf password) (now (buf .entry)) (now (buf .exit)) r ⌝ }
+{
+    written_row(hex::write_hex(password, buf))
+}
+
+#[no_mangle]
+pub extern "C" fn lift_write_words(password: u64, buf: &mut [u8]) -> LiftWritten
+    ensures { λ r. ⌜ Reported (writtenOf (length (now (buf .entry))) (wordsOf password)) (wordsOf password) (now (buf .entry)) (now (buf .exit)) r ⌝ }
+{
+    written_row(sixwords::spelling::write_words(password, buf))
+}
+
+#[no_mangle]
+pub extern "C" fn lift_password_of(bytes: &[u8; 8]) -> u64
+    ensures { λ r. ⌜ r ≡ numberOf (now (bytes .entry)) ⌝ }
+{
+    password::eight_bytes::number_of(*bytes)
+}
+
+#[no_mangle]
+pub extern "C" fn lift_bytes_of(password: u64, bytes: &mut [u8; 8])
+    ensures { λ r. ⌜ now (bytes .exit) ≡ bytesOf password ⌝ }
+{
+    *bytes = password::eight_bytes::bytes_of(password);
+}
+
+// Challenges: reading one, and writing one.
+
+#[no_mangle]
+pub extern "C" fn lift_read_challenge(text: &[u8]) -> LiftChallenge
+    ensures { λ r. ⌜ r ≡ challengeRow (challengeOf (now (text .entry))) ⌝ }
+{
+    challenge_row(challenge::reading::read(text))
+}
+
+#[no_mangle]
+pub extern "C" fn lift_write_challenge(seed: &[u8], count: u32, buf: &mut [u8]) -> LiftWritten
+    ensures { λ r. ⌜ Reported (challengeWritten (now (seed .entry)) count (length (now (buf .entry))))
+        (challengeText (now (seed .entry)) count) (now (buf .entry)) (now (buf .exit)) r ⌝ }
+{
+    written_row(challenge::writing::write(seed, count, buf))
+}
 
 // The card.
-pub mod card;
-// Challenges.
-pub mod challenges;
-// MD5 and the generator.
-pub mod hashing;
-// Replies and passwords.
-pub mod replies;
+
+#[no_mangle]
+pub extern "C" fn lift_write_card(
+    phrase: &[u8],
+    challenge: &[u8],
+    lines: u32,
+    buf: &mut [u8],
+) -> LiftWritten
+    ensures { λ r. ⌜ Reported (cardWritten (now (phrase .entry)) (now (challenge .entry)) lines (length (now (buf .entry))))
+        (cardOf (now (phrase .entry)) (now (challenge .entry)) lines) (now (buf .entry)) (now (buf .exit)) r ⌝ }
+{
+    written_row(cards::write_card(phrase, challenge, lines, buf))
+}

@@ -4,8 +4,8 @@ use mathlib.Core.List.{List, [], _∷_, _++_, map}
 use native.Mathlib.Nat.{mod-lt}
 use native.Mathlib.Omega.{arith}
 use lib.Bits.{bitXor, xor-lt}
-use Rattle.rfc1321.specs.Lists.{upTo}
-use Rattle.rfc1321.specs.Md5.{registers, bytes4, md5}
+use Rattle.digests.specs.Lists.{upTo}
+use Rattle.digests.specs.Md5.{registers, bytes4, md5}
 use Rattle.text.specs.Kinds.{lowerOf}
 use Rattle.password.specs.Password.{Algorithm, fold, numberAfter, numberOf, bytesOf, hash, password}
 

@@ -6,7 +6,7 @@ use borrow.Author.Tests.{lt-ltb, le-ltb}
 use Rattle.refusal.specs.declared.Refusal.{Refusal}
 use Rattle.refusal.specs.declared.Checked.{Checked}
 use Rattle.refusal.specs.declared.Reading.{Reading}
-use Rattle.inputs.specs.Checks.{phraseChecked, seedChecked}
+use Rattle.password.specs.PhraseAndSeed.{phraseChecked, seedChecked}
 use Rattle.password.specs.Password.{Algorithm, password, generated}
 
 -- the generator's answers, one for each way through its checks

@@ -3,3 +3,7 @@ pub mod Password
 pub mod Examples
 pub mod Laws
 pub mod Bounds
+pub mod PhraseAndSeed
+pub mod PhraseAndSeedLaws
+pub mod EightBytes
+pub mod EightBytesLaws

@@ -5,16 +5,16 @@ use mathlib.Core.List.{List, _++_, map}
 use lib.Bits.{bitXor}
 use lib.Dec.{ltb}
 use lib.ListN.{getD}
-use Rattle.rfc1321.specs.Lists.{upTo}
+use Rattle.digests.specs.Lists.{upTo}
 use Rattle.refusal.specs.declared.Refusal.{Refusal}
 use Rattle.refusal.specs.declared.Reading.{Reading}
 use Rattle.refusal.specs.Checks.{unless}
 use Rattle.text.specs.Kinds.{lowerOf}
-use Rattle.rfc1321.specs.Md5 as Md5
-use Rattle.inputs.specs.Checks.{phraseChecked, seedChecked}
+use Rattle.digests.specs.Md5 as Md5
+use Rattle.password.specs.PhraseAndSeed.{phraseChecked, seedChecked}
 -- "The 8 bytes are one 64-bit number, first byte most significant"
-unfoldable pub use Rattle.eight_bytes.specs.EightBytes.{numberAfter}
-pub use Rattle.eight_bytes.specs.EightBytes.{numberOf, bytesOf}
+unfoldable pub use Rattle.password.specs.EightBytes.{numberAfter}
+pub use Rattle.password.specs.EightBytes.{numberOf, bytesOf}
 
 -- "byte i of the 16-byte digest is xored with byte i+8, giving 8 bytes"
 unfoldable pub fold : List ℕ → List ℕ

@@ -1,5 +1,5 @@
 -- What becomes of a port's own record: document 01, 'Table, ports and turns'.
-use Prim.Native.Nat.{ℕ, _+_, _-_}
+use Prim.Native.Nat.{_+_, _-_}
 use mathlib.Core.Bool.{cond}
 use lib.Dec.{leb}
 use Rattle.refusal.specs.declared.Refusal.{Refusal}

@@ -1,7 +1,9 @@
 -- What we write we read back, and what each refusal means: theorems over the other crates' definitions.
-pub mod Places
-pub mod Words
-pub mod Replies
-pub mod Refusals
-pub mod ReplyExamples
-pub mod Cards
+pub mod PlacesRead
+pub mod WordsRead
+pub mod ReplyRead
+pub mod ReplyRefusals
+pub mod Examples
+pub mod CardRead
+pub mod CountRead
+pub mod ChallengeRead

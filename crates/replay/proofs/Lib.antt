@@ -1,4 +1,4 @@
 -- Laws that the proofs of this crate cite.
-pub mod Scanned
+pub mod WordsScanned
 pub mod Paired
-pub mod Places
+pub mod WordPlaces

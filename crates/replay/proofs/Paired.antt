@@ -12,9 +12,9 @@ use lib.Seq.{drop-cons, drop-set-lt, take-suc-set, take-take}
 use borrow.Author.Tests.{eq-eqb, ne-eqb, le-leb, lt-ltb, le-ltb}
 use Rattle.text.specs.Digits.{digitValue}
 use Rattle.text.specs.Tests.{every, same, second-fails}
-use Rattle.replay.specs.declared.numbers.Bytes.{Bytes}
-use Rattle.replay.specs.Words.{digitIn, isDigitOf, bytesIn, pairsIn, textIn}
-use Rattle.replay.proofs.Scanned.{digit-value}
+use Rattle.replay.specs.declared.word_values.Bytes.{Bytes}
+use Rattle.replay.specs.ReplayWords.{digitIn, isDigitOf, bytesIn, pairsIn, textIn}
+use Rattle.replay.proofs.WordsScanned.{digit-value}
 
 -- i pairs of the word v are bytes at the front of w, and the others still stand where they stood
 pub record Paired (v w : List ℕ) (i : ℕ) : Type 0 where
@@ -32,7 +32,8 @@ no-digit b d e h = ap (λ (x : ℕ). ltb x 16) (sym e) ∙ le-ltb d 16 (omega ar
 is-digit : (b d : ℕ) → d ≡ digitIn b → d < 16 → isDigitOf 16 b ≡ true
 is-digit b d e h = ap (λ (x : ℕ). ltb x 16) (sym e) ∙ lt-ltb d 16 h
 
-module _ (v w : List ℕ) (i high low : ℕ) (inside : 2 * i + 1 < length w) (first : high ≡ digitIn (getD w (2 * i) 0)) (second : low ≡ digitIn (getD w (2 * i + 1) 0)) (p : Paired v w i) where
+module _ (v w : List ℕ) (i high low : ℕ) (inside : 2 * i + 1 < length w) (first : high ≡ digitIn (getD w (2 * i) 0))
+    (second : low ≡ digitIn (getD w (2 * i + 1) 0)) (p : Paired v w i) where
   abbrev a : ℕ
   a = getD w (2 * i) 0
 
@@ -55,7 +56,8 @@ module _ (v w : List ℕ) (i high low : ℕ) (inside : 2 * i + 1 < length w) (fi
 
   -- one of the two is no digit
   pub bad-pair : (15 < high) ⊎ (15 < low) → pairsIn v ≡ Bytes.Bad
-  bad-pair h = ap (λ (t : Bool). cond t (Bytes.Are (length v / 2)) Bytes.Bad) (ap (λ (t : Bool). eqb (length v % 2) 0 && t) (none h) ∙ never (eqb (length v % 2) 0))
+  bad-pair h = ap (λ (t : Bool). cond t (Bytes.Are (length v / 2)) Bytes.Bad) (ap (λ (t : Bool). eqb (length v % 2) 0 && t) (none h)
+      ∙ never (eqb (length v % 2) 0))
     where
       never : (t : Bool) → (t && false) ≡ false
       never true = refl
@@ -85,11 +87,13 @@ module _ (v w : List ℕ) (i high low : ℕ) (inside : 2 * i + 1 < length w) (fi
             ∙ ap (λ (l : List ℕ). take i w ++ bytesIn l) rest
             ∙ ap (λ (x : ℕ). take i w ++ x ∷ bytesIn (drop (2 * (i + 1)) w)) byte
             ∙ sym (append-assoc (take i w) ((high * 16 + low) ∷ []) (bytesIn (drop (2 * (i + 1)) w)))
-            ∙ ap₂ (λ (l m : List ℕ). l ++ bytesIn m) (sym (ap (λ (k : ℕ). take k (set w i (high * 16 + low))) (add-one i) ∙ take-suc-set w i (high * 16 + low) (omega arith))) (sym kept);
+            ∙ ap₂ (λ (l m : List ℕ). l ++ bytesIn m) (sym (ap (λ (k : ℕ). take k (set w i (high * 16 + low))) (add-one i)
+            ∙ take-suc-set w i (high * 16 + low) (omega arith))) (sym kept);
       }
 
 -- all pairs
-pub all-paired : (v w : List ℕ) → length v % 2 ≡ 0 → Paired v w (length v / 2) → (Bytes.Are (length v / 2) ≡ pairsIn v) × (take (length v / 2) w ≡ take (length v / 2) (bytesIn v))
+pub all-paired : (v w : List ℕ) → length v % 2 ≡ 0 → Paired v w (length v / 2)
+    → (Bytes.Are (length v / 2) ≡ pairsIn v) × (take (length v / 2) w ≡ take (length v / 2) (bytesIn v))
 unfolding every bytesIn
 all-paired v w even p =
     let n = length v / 2 in

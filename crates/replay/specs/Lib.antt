@@ -1,2 +1,2 @@
 -- What a line's words say.
-pub mod Words
+pub mod ReplayWords

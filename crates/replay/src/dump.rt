@@ -5,7 +5,7 @@ use crate::printing::bytes;
 use crate::printing::good;
 use crate::printing::number;
 use crate::printing::password;
-use login::table::Table;
+use table::Table;
 
 // A comma before each entry of a list but the first.
 fn comma(k: usize) {

@@ -2,24 +2,24 @@
 // read before the first call. An input of more than 1 MiB is answered by one line, `bad`, and none of its calls is run.
 ghost use Prim.Native.Nat.{_<_};
 use libc::STDIN_FILENO;
-use login::table::Table;
+use table::Table;
 
 // The calls by number.
-mod calls;
+mod names;
 // The table on a line.
 mod dump;
 // What a writer is lent.
 mod lending;
 // What a word says.
-mod numbers;
+mod word_values;
 // Answers.
 mod printing;
 // The calls on the table.
-mod tables;
+mod table_calls;
 // The calls that need no table.
-mod texts;
+mod text_calls;
 // The words of a line.
-mod words;
+mod script_words;
 
 // Whether a line is passed over: an empty one, and a comment.
 fn is_passed(line: &[u8]) -> bool {
@@ -31,24 +31,24 @@ fn is_passed(line: &[u8]) -> bool {
 
 // The number of the call that a line names.
 fn call_in(line: &[u8]) -> usize {
-    let end = words::end_of(line, 0);
-    calls::call_of(&line[..end])
+    let end = script_words::end_of(line, 0);
+    names::call_of(&line[..end])
 }
 
 // Answers a call, and hands back the table after it.
 fn answer_call(line: &mut [u8], call: usize, table: Table) -> Table
     requires { ⌜ call < 19 ⌝ }
 {
-    let given = words::read(line, call);
+    let given = script_words::read(line, call);
     if !given.good {
         printing::bad();
         return table;
     }
     if call < 9 {
-        texts::answer(call, line, given);
+        text_calls::answer(call, line, given);
         return table;
     }
-    tables::answer(call, line, given, table)
+    reached::answer(call, line, given, table)
 }
 
 // Answers a line, if it is not passed over, and hands back the table after it.
@@ -66,7 +66,7 @@ fn answer(line: &mut [u8], table: Table) -> Table {
 
 // Answers each line in turn. The last one may lack its newline.
 fn answer_all(input: &mut [u8]) {
-    let mut table = login::table::fresh();
+    let mut table = table::fresh();
     let mut at = 0;
     while at < input.len() {
         let start = at;

@@ -3,12 +3,12 @@ ghost use Prim.Native.Nat.{_≤_};
 ghost use lib.ListN.{length};
 use crate::lending::is_untouched;
 use libc::STDOUT_FILENO;
-use login::table::Replied;
-use put::spell;
 use refusal::Checked;
 use refusal::Reading;
 use refusal::Refusal;
 use refusal::Written;
+use table::Replied;
+use text::put::spell;
 
 pub fn say(text: &[u8]) {
     io::write_all(STDOUT_FILENO, text);

@@ -38,5 +38,6 @@ examples =
     ("", Reading.Refused Refusal.ReplyUnread) ∷ []
 
 pub examples-read : map (λ (e : Example). readingOf (codes (e .0))) examples ≡ map (λ (e : Example). e .1) examples
-unfolding readingOf sixWords isWord foundAfter sixteenDigits hexReading every parted unspaced numberAfter codes wordsIn lines words flatten same standsFrom placeOf pairs pairSum joined allPlaces numberOf
+unfolding readingOf sixWords isWord foundAfter sixteenDigits hexReading every parted unspaced numberAfter codes wordsIn lines
+    words flatten same standsFrom placeOf pairs pairSum joined allPlaces numberOf
 examples-read = refl

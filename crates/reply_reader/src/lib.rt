@@ -1,11 +1,16 @@
 // A reply read: six words or sixteen hex digits. Document 01, 'Six words and hex'.
+use crate::known_words::read_words;
+use crate::typed_words::six_words;
 use hex::read_hex;
-use known_words::read_words;
 use refusal::Reading;
 use refusal::Refusal;
-use typed_words::six_words;
 ghost use mathlib.Core.Path.{_≡_};
 ghost use Rattle.reply.specs.Reading.{readingOf};
+
+// The tokens of a reply as packed words of the dictionary.
+mod typed_words;
+// Six packed words looked up.
+mod known_words;
 
 // The password that a reply says, in six words or in hex.
 pub fn read(text: &[u8]) -> Reading

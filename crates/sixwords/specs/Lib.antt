@@ -2,3 +2,6 @@
 pub mod Places
 pub mod Laws
 pub mod Examples
+pub mod Inside
+pub mod SpellingLaws
+pub mod Spelling

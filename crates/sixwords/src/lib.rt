@@ -1,6 +1,9 @@
-// A 64-bit number as six places of the dictionary, and back: document 01, 'Six words and hex'.
+// A password as six words: a 64-bit number as six places of the dictionary, and back; the words written. Document 01, 'Six words and hex'.
 ghost use mathlib.Core.Path.{_≡_};
 ghost use Rattle.sixwords.specs.Places.{pairSum, placesOf, numberOf};
+
+// The six words written.
+pub mod spelling;
 
 // The number that six places stand for, or that the pair sum after it is wrong.
 pub enum Number {
@@ -9,7 +12,7 @@ pub enum Number {
 }
 
 // The six places of a number, most significant first.
-pub fn places_of(p: u64) -> [usize; 6]
+fn places_of(p: u64) -> [usize; 6]
     ensures { λ r. ⌜ r ≡ placesOf p ⌝ }
 {
     let sum = pair_sum(p) % 4;

@@ -34,10 +34,12 @@ value-none b e f = rw (e, f)
 pub length-digits : (base k n : ℕ) → length (digitsOf base k n) ≡ k
 unfolding digitsOf
 length-digits base zero n = refl
-length-digits base (suc k) n = length-append (digitsOf base k (n / base)) (digitOf (n % base) ∷ []) ∙ ap (λ (m : ℕ). m + 1) (length-digits base k (n / base)) ∙ add-one k
+length-digits base (suc k) n = length-append (digitsOf base k (n / base)) (digitOf (n % base) ∷ [])
+    ∙ ap (λ (m : ℕ). m + 1) (length-digits base k (n / base)) ∙ add-one k
 
 -- one digit more of r, from the right
-pub spelt : (base : ℕ) (b : List ℕ) (i r : ℕ) → i < length b → digitsOf base (i + 1) r ++ drop (i + 1) b ≡ digitsOf base i (r / base) ++ drop i (set b i (digitOf (r % base)))
+pub spelt : (base : ℕ) (b : List ℕ) (i r : ℕ) → i < length b → digitsOf base (i + 1) r ++ drop (i + 1) b
+    ≡ digitsOf base i (r / base) ++ drop i (set b i (digitOf (r % base)))
 unfolding digitsOf
 spelt base b i r h =
     ap (λ (k : ℕ). digitsOf base k r ++ drop k b) (add-one i)
@@ -124,7 +126,8 @@ number-digits base (suc k) n g h l =
     ∙ div-add-mod' n base
 
 -- and are those of the number that they stand for, in lower case
-pub digits-number : (base k n : ℕ) (s : List ℕ) → 0 < base → base ≤ 16 → every (λ b. ltb (digitValue b) base) s ≡ true → digitsOf base (k + length s) (numberAfter base n s) ≡ digitsOf base k n ++ map lowerOf s
+pub digits-number : (base k n : ℕ) (s : List ℕ) → 0 < base → base ≤ 16 → every (λ b. ltb (digitValue b) base) s ≡ true
+    → digitsOf base (k + length s) (numberAfter base n s) ≡ digitsOf base k n ++ map lowerOf s
 unfolding digitsOf numberAfter every
 digits-number base k n [] g h e = ap (λ (j : ℕ). digitsOf base j n) (add-zero k) ∙ sym (append-nil (digitsOf base k n))
 digits-number base k n (d ∷ s) g h e =

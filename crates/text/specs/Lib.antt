@@ -2,10 +2,12 @@
 pub mod Kinds
 pub mod Scan
 pub mod Digits
-pub mod Front
+pub mod Put
 pub mod Quoted
 pub mod Tests
 pub mod KindLaws
 pub mod ScanLaws
 pub mod DigitLaws
-pub mod FrontLaws
+pub mod PutLaws
+pub mod Counts
+pub mod CountLaws

@@ -1,9 +1,9 @@
 -- Helper definitions of private functions: nothing outside this crate rests on them.
 use Prim.Native.Nat.{ℕ}
 use lib.ListN.{getD}
-use Rattle.rooms.specs.Rooms.{free}
-use Rattle.controller.specs.Table.{State, portOf}
-use Rattle.offers.specs.Turn.{Seen}
+use Rattle.accounts.specs.Rooms.{free}
+use Rattle.table.specs.Table.{State, portOf}
+use Rattle.turns.specs.TurnPart.{Seen}
 
 -- What a port's call looks at, the account of its turn in that room.
 abbrev pub seenAt : ℕ → ℕ → State → Seen

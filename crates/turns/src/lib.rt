@@ -1,28 +1,35 @@
 // The calls of the port that has the turn: Challenge, Reply and Renew.
 ghost use mathlib.Core.Path.{_≡_};
 ghost use lib.ListN.{length, getD, set};
-ghost use Rattle.text.specs.Front.{leaves};
+ghost use Rattle.text.specs.Put.{leaves};
 ghost use Rattle.line.specs.Line as lines;
-ghost use Rattle.controller.specs.Table.{view, idOf, freshPort};
-ghost use Rattle.controller.specs.Steps as steps;
-ghost use Rattle.offers.specs.Turn.{seen, outcome, after};
+ghost use Rattle.table.specs.Table.{view, idOf, freshPort};
+ghost use Rattle.table.specs.Steps as steps;
+ghost use Rattle.turns.specs.TurnPart.{seen, outcome, after};
 ghost use Rattle.turns.specs.Inside.{seenAt};
-use asked::write_challenge;
-use controller::Answered;
-use controller::Table;
-use front::check_turn;
+use crate::offering::Outcome;
+use crate::offering::Turn;
+use crate::replying::renewed;
+use crate::replying::replied;
+use crate::turn_checks::check_turn;
+use accounts::lowered::write_challenge;
 use line::Front;
 use line::Line;
-use offers::Outcome;
-use offers::Turn;
 use port::Port;
 use refusal::Checked;
 use refusal::Written;
-use replied::renewed;
-use replied::replied;
-use standing::account_at;
-use standing::place_of;
-use standing::put;
+use table::Answered;
+use table::Table;
+use table::held::account_at;
+use table::held::place_of;
+use table::held::put;
+
+// What Challenge, Reply and Renew check first: the port is in front, and its account isn't used up.
+mod turn_checks;
+// What is done with a password that is offered in a turn.
+mod offering;
+// Reply and Renew on what a port's turn has of the table.
+mod replying;
 
 // The account that the front waits for.
 fn turn_id(line: Line) -> u16

@@ -21,7 +21,7 @@ fn both_texts(p: u64) {
     show(written, &hex);
     io::write_all(STDOUT_FILENO, b"\t");
     let mut words = [0u8; 29];
-    let written = spelling::write_words(p, &mut words);
+    let written = sixwords::spelling::write_words(p, &mut words);
     show(written, &words);
 }
 

@@ -2,7 +2,7 @@
 use borrow.Author.Needs.{needs}
 use mathlib.Core.Path.{sym}
 use native.Mathlib.Omega.{arith}
-use Rattle.rfc1321.specs.Padding.{little}
+use Rattle.digests.specs.Padding.{little}
 use Rattle.block.specs.Laws.{byte-message, byte-one, byte-zero, byte-length}
 use Rattle.block.proofs.byte.Statement.{statement}
 use Rattle.block.proofs.byte.Tie as tie

@@ -1,8 +1,8 @@
 -- `message_block` meets its promise: the words before k are the block's.
 use Prim.Native.Nat.{ℕ, _+_, _*_, _-_}
 use borrow.Author.Needs.{needs}
-use Rattle.rfc1321.specs.Padding.{little, paddedWord, blockAt}
-use Rattle.rfc1321.specs.Lists.{Filling, filling-starts, filling-goes-on, filling-ends}
+use Rattle.digests.specs.Padding.{little, paddedWord, blockAt}
+use Rattle.digests.specs.Lists.{Filling, filling-starts, filling-goes-on, filling-ends}
 use Rattle.block.proofs.message_block.Statement.{statement}
 use Rattle.block.proofs.message_block.Tie as tie
 

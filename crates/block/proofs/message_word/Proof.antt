@@ -1,7 +1,7 @@
 -- `message_word` meets its promise: the four bytes are the padded message's.
 use borrow.Author.Needs.{needs}
 use mathlib.Core.Path.{sym, _∙_}
-use Rattle.rfc1321.specs.Padding.{little}
+use Rattle.digests.specs.Padding.{little}
 use Rattle.block.specs.Laws.{word-message}
 use Rattle.block.proofs.message_word.Statement.{statement}
 use Rattle.block.proofs.message_word.Tie as tie

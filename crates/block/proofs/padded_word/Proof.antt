@@ -1,7 +1,7 @@
 -- `padded_word` meets its promise: the four bytes are the padded message's.
 use borrow.Author.Needs.{needs}
 use mathlib.Core.Path.{_∙_}
-use Rattle.rfc1321.specs.Padding.{little, word, paddedWord}
+use Rattle.digests.specs.Padding.{little, word, paddedWord}
 use Rattle.block.proofs.padded_word.Statement.{statement}
 use Rattle.block.proofs.padded_word.Tie as tie
 

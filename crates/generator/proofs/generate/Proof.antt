@@ -3,8 +3,8 @@ use mathlib.Core.Path.{_≡_, sym, ap, _∙_}
 use borrow.Author.Needs.{needs}
 use Rattle.refusal.specs.declared.Checked.{Checked}
 use Rattle.refusal.specs.declared.Reading.{Reading}
-use Rattle.inputs.specs.Checks.{phraseChecked, seedChecked}
-use Rattle.inputs.specs.Laws.{good-phrase, good-seed}
+use Rattle.password.specs.PhraseAndSeed.{phraseChecked, seedChecked}
+use Rattle.password.specs.PhraseAndSeedLaws.{good-phrase, good-seed}
 use Rattle.password.specs.Password.{Algorithm}
 use Rattle.password.specs.Laws.{refused-phrase, refused-seed, refused-count, generated-good}
 use Rattle.generator.specs.Inside.{chained}
@@ -24,7 +24,8 @@ returns c =
 
 returns-2 : tie.Need-returns-2
 returns-2 c =
-    sym (refused-seed Algorithm.md5 _ _ _ _ (phrase-good (c .before .before .before .before)) (sym (c .before .before .before .check-seed .ensures) ∙ c .before .why2 .given .1))
+    sym (refused-seed Algorithm.md5 _ _ _ _ (phrase-good (c .before .before .before .before))
+    (sym (c .before .before .before .check-seed .ensures) ∙ c .before .why2 .given .1))
 
 returns-3 : tie.Need-returns-3
 returns-3 c = sym (refused-count Algorithm.md5 _ _ _ (phrase-good (c .before .before .before .before)) (seed-good (c .before)) (c .if1 .taken))

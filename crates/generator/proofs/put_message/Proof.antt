@@ -5,7 +5,7 @@ use borrow.Author.Needs.{needs}
 use native.Mathlib.Omega.{arith}
 use lib.ListN.{length, length-map, length-take, length-drop}
 use Rattle.text.specs.Kinds.{lowerOf}
-use Rattle.text.specs.FrontLaws.{then-put}
+use Rattle.text.specs.PutLaws.{then-put}
 use Rattle.generator.proofs.put_message.Statement.{statement}
 use Rattle.generator.proofs.put_message.Tie as tie
 

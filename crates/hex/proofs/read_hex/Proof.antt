@@ -7,7 +7,19 @@ use lib.ListN.{length, drop, getD}
 use Rattle.text.specs.Scan.{unspaced}
 use Rattle.hex.specs.Hex.{hexReading}
 use Rattle.hex.specs.Inside.{hexAfter}
-use Rattle.hex.proofs.HexDigits.{hex-grows, sixteen-fit, white-byte, solid-byte, hex-start, hex-digit, hex-other, hex-long, hex-end, hex-short, none-left}
+use Rattle.hex.proofs.HexDigits.{
+  hex-grows,
+  sixteen-fit,
+  white-byte,
+  solid-byte,
+  hex-start,
+  hex-digit,
+  hex-other,
+  hex-long,
+  hex-end,
+  hex-short,
+  none-left,
+}
 use Rattle.hex.proofs.read_hex.Statement.{statement}
 use Rattle.hex.proofs.read_hex.Tie as tie
 

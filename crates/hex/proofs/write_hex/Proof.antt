@@ -2,7 +2,7 @@
 use borrow.Author.Needs.{needs}
 use native.Mathlib.Omega.{arith}
 use Rattle.hex.specs.Laws.{hex-length}
-use Rattle.text.specs.FrontLaws.{put-writes, short-writes}
+use Rattle.text.specs.PutLaws.{put-writes, short-writes}
 use Rattle.hex.specs.Hex.{hexOf}
 use Rattle.hex.proofs.write_hex.Statement.{statement}
 use Rattle.hex.proofs.write_hex.Tie as tie

@@ -1,5 +1,4 @@
 -- `count` meets its promise: the length of what is taken of four.
-use Prim.Native.Nat.{ℕ}
 use mathlib.Core.Path.{_≡_}
 use borrow.Author.Needs.{needs}
 use native.Mathlib.Omega.{arith}

@@ -1,8 +1,8 @@
 -- `front_of` meets its promise: nobody in an empty line, else the first place.
-use mathlib.Core.Path.{_≡_, sym, ap, _∙_}
+use mathlib.Core.Path.{sym}
 use borrow.Author.Needs.{needs}
 use native.Mathlib.Omega.{arith}
-use Rattle.line.proofs.Places.{first-none, first-some}
+use Rattle.line.proofs.Placed.{first-none, first-some}
 use Rattle.line.proofs.front_of.Statement.{statement}
 use Rattle.line.proofs.front_of.Tie as tie
 

@@ -1,5 +1,5 @@
 -- `has` meets its promise: none of the first i places is the port's.
-use Prim.Native.Nat.{ℕ, _-_, _≤_}
+use Prim.Native.Nat.{_-_, _≤_}
 use mathlib.Core.Path.{_≡_, refl, sym, ap, ap₂, _∙_}
 use mathlib.Core.Bool.{Bool, false, _||_}
 use borrow.Author.Needs.{needs}
@@ -7,7 +7,7 @@ use borrow.Author.Tests.{eq-eqb, ne-eqb}
 use native.Mathlib.Omega.{arith}
 use lib.ListN.{length, take}
 use Rattle.line.specs.Line.{some, ofPort}
-use Rattle.line.proofs.Places.{some-next, some-at}
+use Rattle.line.proofs.Placed.{some-next, some-at}
 use Rattle.line.specs.Laws.{unmapped, all-taken}
 use Rattle.line.proofs.has.Statement.{statement}
 use Rattle.line.proofs.has.Tie as tie

@@ -24,7 +24,8 @@ use Rattle.port.proofs.right.Statement as stated
 use Rattle.port.proofs.right.Code as code
 
 -- What is promised is what the step makes of the record.
-promised : {M : Type 1} (𝓤 : URA M) (H : Heap 𝓤) (A : Atoms 𝓤) (mem : Memory → SProp 𝓤) (run : Routine → Fun 𝓤) (κs : Lfts 1) (a : Args f.signature κs) (end : AtExit f.ended κs)
+promised : {M : Type 1} (𝓤 : URA M) (H : Heap 𝓤) (A : Atoms 𝓤) (mem : Memory → SProp 𝓤) (run : Routine
+    → Fun 𝓤) (κs : Lfts 1) (a : Args f.signature κs) (end : AtExit f.ended κs)
     → f.clauses 𝓤 H A mem run κs a .ensures tt tt end ≡ fact 𝓤 (now (end .0) ≡ rightly (now (a .0)))
 promised 𝓤 H A mem run κs a end = refl
 

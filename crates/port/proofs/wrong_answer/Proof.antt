@@ -1,6 +1,5 @@
 -- `wrong_answer` meets its promise: the test says whether this is the third.
 use Prim.Native.Nat.{_+_}
-use borrow.Author.Needs.{needs}
 use borrow.Author.Tests.{le-leb, lt-leb}
 use native.Mathlib.Omega.{arith}
 use Rattle.port.proofs.wrong_answer.Statement.{statement}

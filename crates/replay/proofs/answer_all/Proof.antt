@@ -30,7 +30,10 @@ answer-all-spec =
     (λ c κs. search needs)
     (λ c. search needs)
     (λ c. let f = c .before .before .before .before in
-    let at = f .before .before .before .loop in
-    (omega (arith, f .find .ensures .1), same-len-mid (at .at) (f .find .result - at .at) (at .input) (c .before .before .answer .last .0) (c .before .before .answer .kept .0) ∙ at .inv .1))
+    let at = f .before .before .before .loop in (
+      omega (arith, f .find .ensures .1),
+      same-len-mid (at .at) (f .find .result - at .at) (at .input)
+          (c .before .before .answer .last .0) (c .before .before .answer .kept .0) ∙ at .inv .1,
+    ))
     (λ c. c .before .loop .inv .1)
     (λ c. search needs))

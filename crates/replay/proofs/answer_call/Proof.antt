@@ -1,6 +1,6 @@
 -- `answer_call` is safe: the texts that `read` found stand within the line.
 use mathlib.Core.Path.{sym, subst}
-use Rattle.replay.specs.Words.{Within}
+use Rattle.replay.specs.ReplayWords.{Within}
 use borrow.Author.Needs.{needs}
 use Rattle.replay.proofs.answer_call.Statement.{statement}
 use Rattle.replay.proofs.answer_call.Tie as tie

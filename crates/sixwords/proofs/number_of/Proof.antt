@@ -33,7 +33,8 @@ grown c =
     place-joined (c .before .before .before .args .t1) (at .first) (at .k) (omega arith) (at .inv .2) (c .if1 .left)
 
 -- and fits
-fits : (c : tie.Else1 Inv-loop μ-loop) → c .before .before .loop .first * 2048 + getD (c .before .before .before .args .t1) (c .before .before .loop .k) 0 < 2 ^ 55
+fits : (c : tie.Else1 Inv-loop μ-loop) → c .before .before .loop .first * 2048
+    + getD (c .before .before .before .args .t1) (c .before .before .loop .k) 0 < 2 ^ 55
 fits c = five-fit _ (c .before .before .loop .k + 1) (grown c .0) (omega arith)
 
 returns-2 : tie.Need-returns-2 Inv-loop μ-loop

@@ -3,14 +3,14 @@ use Prim.Native.Nat.{ℕ, _-_}
 use mathlib.Core.Path.{_≡_, refl, sym, ap, _∙_}
 use borrow.Author.Needs.{needs}
 use lib.ListN.{length, getD}
-use Rattle.text.specs.Front.{leaves}
+use Rattle.text.specs.Put.{leaves}
 use Rattle.challenge.specs.Challenges.{challengeText, challengeWritten}
-use Rattle.rooms.specs.Rooms.{Room, roomOf, free, placeOf}
-use Rattle.controller.specs.Table.{view, accountOf, turnId}
-use Rattle.controller.specs.Steps.{turnChecked}
-use Rattle.controller.specs.Passed.{challenge-refused, challenge-done}
-use Rattle.front.specs.Front.{frontChecked}
-use Rattle.front.specs.Laws.{front-checked}
+use Rattle.accounts.specs.Rooms.{Room, roomOf, free, placeOf}
+use Rattle.table.specs.Table.{view, accountOf, turnId}
+use Rattle.table.specs.Steps.{turnChecked}
+use Rattle.table.specs.Passed.{challenge-refused, challenge-done}
+use Rattle.turns.specs.TurnChecks.{frontChecked}
+use Rattle.turns.specs.TurnCheckLaws.{front-checked}
 use Rattle.turns.proofs.challenge.Statement.{statement}
 use Rattle.turns.proofs.challenge.Tie as tie
 

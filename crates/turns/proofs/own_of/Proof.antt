@@ -4,7 +4,7 @@ use borrow.Author.Needs.{needs}
 use native.Mathlib.Omega.{arith}
 use lib.ListN.{length, List·getD-eq-default}
 use Rattle.line.specs.Laws.{unmapped}
-use Rattle.controller.specs.Table.{freshPort}
+use Rattle.table.specs.Table.{freshPort}
 use Rattle.turns.proofs.own_of.Statement.{statement}
 use Rattle.turns.proofs.own_of.Tie as tie
 

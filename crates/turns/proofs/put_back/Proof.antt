@@ -1,10 +1,9 @@
 -- `put_back` meets its promise: the account, the port's record and the line.
-use mathlib.Core.Path.{_≡_, ap, _∙_}
+use mathlib.Core.Path.{ap, _∙_}
 use borrow.Author.Needs.{needs}
 use lib.ListN.{set}
 use Rattle.line.specs.Line.{waiting}
-use Rattle.controller.specs.Table.{State}
-use Rattle.controller.specs.Steps.{After}
+use Rattle.table.specs.Table.{State}
 use Rattle.turns.proofs.put_back.Statement.{statement}
 use Rattle.turns.proofs.put_back.Tie as tie
 

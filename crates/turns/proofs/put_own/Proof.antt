@@ -1,12 +1,10 @@
 -- `put_own` meets its promise: past the last port none is set.
-use Prim.Native.Nat.{ℕ, zero, suc, _≤_}
-use mathlib.Core.Path.{_≡_, refl, sym, ap}
-use mathlib.Core.List.{List, [], _∷_}
+use mathlib.Core.Path.{_≡_, sym}
 use borrow.Author.Needs.{needs}
 use native.Mathlib.Omega.{arith}
-use lib.ListN.{length, set}
+use lib.ListN.{length}
 use Rattle.line.specs.Laws.{unmapped}
-use Rattle.rooms.specs.Laws.{set-past}
+use Rattle.accounts.specs.RoomLaws.{set-past}
 use Rattle.turns.proofs.put_own.Statement.{statement}
 use Rattle.turns.proofs.put_own.Tie as tie
 

@@ -1,12 +1,12 @@
 -- `reply` meets its promise: what the turn becomes, put back, is the written step.
 use Prim.Native.Nat.{ℕ}
-use mathlib.Core.Path.{_≡_, ap, _∙_}
+use mathlib.Core.Path.{ap, _∙_}
 use borrow.Author.Needs.{needs}
-use Rattle.rooms.specs.Rooms.{placeOf}
-use Rattle.controller.specs.Table.{view}
-use Rattle.offers.specs.Turn.{Seen, Said, after}
-use Rattle.replied.specs.Replied as spec
-use Rattle.replied.specs.Laws.{after-reply}
+use Rattle.accounts.specs.Rooms.{placeOf}
+use Rattle.table.specs.Table.{view}
+use Rattle.turns.specs.TurnPart.{after}
+use Rattle.turns.specs.Replied as spec
+use Rattle.turns.specs.RepliedLaws.{after-reply}
 use Rattle.turns.specs.Inside.{seenAt}
 use Rattle.turns.proofs.reply.Statement.{statement}
 use Rattle.turns.proofs.reply.Tie as tie

@@ -1,7 +1,7 @@
 -- `turn_id` meets its promise: by cases of the front.
-use mathlib.Core.Path.{_≡_, sym, ap, _∙_}
+use mathlib.Core.Path.{sym, ap, _∙_}
 use borrow.Author.Needs.{needs}
-use Rattle.controller.specs.Table.{idOf}
+use Rattle.table.specs.Table.{idOf}
 use Rattle.turns.proofs.turn_id.Statement.{statement}
 use Rattle.turns.proofs.turn_id.Tie as tie
 

@@ -1,8 +1,6 @@
 -- `turn_of` meets its promise: the account in that room, the port's record and the line.
-use mathlib.Core.Path.{_≡_}
 use borrow.Author.Needs.{needs}
-use Rattle.controller.specs.Table.{view}
-use Rattle.offers.specs.Turn.{Seen}
+use Rattle.table.specs.Table.{view}
 use Rattle.turns.proofs.turn_of.Statement.{statement}
 use Rattle.turns.proofs.turn_of.Tie as tie
 

@@ -1,12 +1,11 @@
 -- `account` meets its promise: the seed in lower case, then the rest of sixteen zeros.
 use Prim.Native.Nat.{ℕ}
-use mathlib.Core.Path.{_≡_, refl, ap, ap₂, _∙_}
+use mathlib.Core.Path.{refl, ap₂, _∙_}
 use mathlib.Core.List.{List, map}
 use borrow.Author.Needs.{needs}
 use lib.ListN.{take}
 use lib.Seq.{take-at}
 use Rattle.text.specs.Kinds.{lowerOf}
-use Rattle.rooms.specs.Rooms.{Room}
 use Rattle.accounts.proofs.values.account.Statement.{statement}
 use Rattle.accounts.proofs.values.account.Tie as tie
 

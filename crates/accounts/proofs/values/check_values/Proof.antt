@@ -1,20 +1,20 @@
 -- `check_values` meets its promise: each return is the first check that fails.
-use Prim.Native.Nat.{ℕ, _≤_}
+use Prim.Native.Nat.{_≤_}
 use mathlib.Core.Path.{_≡_, sym, ap, ap₂, _∙_}
 use mathlib.Core.Bool.{Bool, true, _&&_}
-use mathlib.Core.List.{List, map}
+use mathlib.Core.List.{map}
 use borrow.Author.Needs.{needs}
 use borrow.Author.Tests.{le-leb, lt-leb}
 use native.Mathlib.Omega.{arith}
 use lib.Dec.{leb}
-use lib.ListN.{length, take}
+use lib.ListN.{length}
 use lib.Seq.{length-take-le}
 use Rattle.text.specs.Tests.{same}
 use Rattle.refusal.specs.declared.Checked.{Checked}
 use Rattle.text.specs.Kinds.{lowerOf}
-use Rattle.inputs.specs.Checks.{seedChecked}
+use Rattle.password.specs.PhraseAndSeed.{seedChecked}
 use Rattle.line.specs.Laws.{all-taken}
-use Rattle.rooms.specs.Rooms.{roomOf}
+use Rattle.accounts.specs.Rooms.{roomOf}
 use Rattle.accounts.proofs.Order.{new-51, new-seed, new-63, new-good}
 use Rattle.accounts.proofs.values.check_values.Statement.{statement}
 use Rattle.accounts.proofs.values.check_values.Tie as tie
@@ -40,11 +40,13 @@ compared : (c : tie.After-same-seed)
 compared c =
     let start = c .before .before .before .before .before .before .before .before .before .before in
     let account = start .args .present in
-    ap (same (map lowerOf (start .args .seed .now))) (sym (all-taken (c .before .before .seed-len .result) (account .len) (account .seed) (c .before .before .seed-len .ensures .0)))
+    ap (same (map lowerOf (start .args .seed .now)))
+    (sym (all-taken (c .before .before .seed-len .result) (account .len) (account .seed) (c .before .before .seed-len .ensures .0)))
     ∙ sym (c .same-seed .ensures)
 
 returns : tie.Need-returns
-returns c = sym (new-51 _ _ (roomOf (c .before .before .args .present)) (ap (λ (b : Bool). b && leb (c .before .before .args .count) 9999) (lt-leb 2 _ (c .if1 .taken))))
+returns c = sym (new-51 _ _ (roomOf (c .before .before .args .present))
+    (ap (λ (b : Bool). b && leb (c .before .before .args .count) 9999) (lt-leb 2 _ (c .if1 .taken))))
 
 returns-2 : tie.Need-returns-2
 returns-2 c =

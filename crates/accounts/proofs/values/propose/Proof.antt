@@ -1,8 +1,8 @@
 -- `propose` meets its promise: refused as the values are checked, or the account with them.
-use mathlib.Core.Path.{_≡_, sym, ap, ap₂, _∙_}
+use mathlib.Core.Path.{sym, ap, ap₂, _∙_}
 use borrow.Author.Needs.{needs}
 use Rattle.refusal.specs.declared.Checked.{Checked}
-use Rattle.rooms.specs.Rooms.{Room, roomOf}
+use Rattle.accounts.specs.Rooms.{roomOf}
 use Rattle.accounts.specs.Accounts.{newRoom, proposed}
 use Rattle.accounts.proofs.Order.{new-fits, proposed-refused, proposed-good}
 use Rattle.accounts.proofs.values.propose.Statement.{statement}

@@ -1,8 +1,7 @@
 -- `walk` meets its promise. The loop's invariant: the places from `i` on are filled, and `x` is what the place before them takes.
 use borrow.Author.Needs.{needs}
-use Prim.Native.Nat.{ℕ, suc, _+_, _-_, _≤_, _<_}
-use mathlib.Core.Path.{_≡_, refl, sym, _∙_, ap}
-use mathlib.Core.List.{List}
+use Prim.Native.Nat.{_≤_}
+use mathlib.Core.Path.{_≡_, refl}
 use native.Mathlib.Omega.{arith}
 use lib.ListN.{length, length-set, replicate}
 use Rattle.cards.proofs.Climb.{Filled, none-filled, one-more}
@@ -33,6 +32,7 @@ walk-spec =
     (λ c. (
       omega arith,
       simp length-set (c .before .before .loop .inv .1),
-      one-more _ _ (c .before .before .loop .ps) _ _ _ (c .before .before .loop .inv .0) (long c) (c .before .loop-test .taken) (c .step .ensures) (c .before .before .loop .inv .2),
+      one-more _ _ (c .before .before .loop .ps) _ _ _ (c .before .before .loop .inv .0) (long c)
+          (c .before .loop-test .taken) (c .step .ensures) (c .before .before .loop .inv .2),
     ))
     (λ c phrase seed low e i h. c .before .loop .inv .2 phrase seed low e .1 i (omega arith) h))

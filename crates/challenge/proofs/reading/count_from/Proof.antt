@@ -1,7 +1,7 @@
 -- `count_from` meets its promise.
 use borrow.Author.Needs.{needs}
 use mathlib.Core.Path.{_∙_, ap}
-use Rattle.counts.specs.Counts.{countedOf}
+use Rattle.text.specs.Counts.{countedOf}
 use Rattle.challenge.proofs.reading.count_from.Statement.{statement}
 use Rattle.challenge.proofs.reading.count_from.Tie as tie
 

@@ -1,7 +1,7 @@
 -- `next` meets its promise: past the token, and past the blanks after it.
 use borrow.Author.Needs.{needs}
-use Prim.Native.Nat.{ℕ, _+_, _≤_}
-use mathlib.Core.Path.{_≡_, refl, sym, _∙_, ap}
+use Prim.Native.Nat.{ℕ, _+_}
+use mathlib.Core.Path.{_≡_, _∙_, ap}
 use mathlib.Core.List.{List}
 use native.Mathlib.Omega.{arith}
 use lib.ListN.{length, drop}
@@ -30,5 +30,10 @@ next-spec =
     (λ c κs. search needs)
     (λ c. search needs)
     (λ c κs. search needs)
-    (λ c. omega (arith, reached c, next-within (c .before .before .before .args .text .now) (c .before .before .before .args .at) (c .before .before .before .pre)))
+    (λ c. omega (
+      arith,
+      reached c,
+      next-within (c .before .before .before .args .text .now)
+          (c .before .before .before .args .at) (c .before .before .before .pre),
+    ))
     reached)

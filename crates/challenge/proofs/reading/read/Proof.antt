@@ -9,8 +9,8 @@ use native.Mathlib.Omega.{arith}
 use lib.ListN.{length, take}
 use Rattle.text.specs.Digits.{numberOf}
 use Rattle.text.specs.Tests.{same}
-use Rattle.counts.specs.Counts.{isCount, countedOf}
-use Rattle.counts.specs.Laws.{is-read, is-unread}
+use Rattle.text.specs.Counts.{isCount, countedOf}
+use Rattle.text.specs.CountLaws.{is-read, is-unread}
 use Rattle.challenge.specs.Challenges.{opening, algorithm, tokenAt, nextAt, countAt, seedAt}
 use Rattle.challenge.specs.Inside.{seedFrom}
 use Rattle.challenge.specs.Laws.{opened-long, next-within, stop1, stop2, stop3, from-seed}
@@ -65,7 +65,8 @@ returns-3 c =
 abbrev count : tie.After-known-told → tie.After-count-from
 count c = c .before .before .before
 
-good-count : (c : tie.After-known-told) → (isCount (tokenAt (text₃ (count c)) (countAt (text₃ (count c)))) ≡ true) × (numberOf 10 (tokenAt (text₃ (count c)) (countAt (text₃ (count c)))) ≡ c .before .count .given .0 .0)
+good-count : (c : tie.After-known-told) → (isCount (tokenAt (text₃ (count c)) (countAt (text₃ (count c)))) ≡ true)
+    × (numberOf 10 (tokenAt (text₃ (count c)) (countAt (text₃ (count c)))) ≡ c .before .count .given .0 .0)
 good-count c = is-read _ _ (sym (counted (count c)) ∙ c .before .count .given .1)
 
 at-seed : (c : tie.After-next2) → c .next2 .result ≡ seedAt (text₃ (count (c .before)))

@@ -7,7 +7,7 @@ use mathlib.Core.List.{List}
 use native.Mathlib.Omega.{arith}
 use lib.ListN.{length, drop}
 use Rattle.refusal.specs.declared.Checked.{Checked}
-use Rattle.inputs.specs.Checks.{seedChecked}
+use Rattle.password.specs.PhraseAndSeed.{seedChecked}
 use Rattle.challenge.specs.declared.reading.Challenge.{Challenge}
 use Rattle.challenge.specs.Challenges.{tokenAt, endOf, terminated}
 use Rattle.challenge.specs.Laws.{token-within, stop4, stop5, all-good}

@@ -28,8 +28,10 @@ none text why o e = (
   sym (ap (λ (r : Challenge). startOf r + o) e ∙ zero-add o),
 )
 
-within : (c : tie.After-known-told) → c .before .start .given .0 .1 .0 + c .before .start .given .0 .1 .1 .0 ≤ length (c .before .before .before .before .before .args .text .now)
-within c = part-within _ _ _ _ (c .before .before .before .before .before .args .text .now) (sym (c .before .before .before .read .ensures) ∙ c .before .start .given .1)
+within : (c : tie.After-known-told) → c .before .start .given .0 .1 .0 + c .before .start .given .0 .1 .1 .0
+    ≤ length (c .before .before .before .before .before .args .text .now)
+within c = part-within _ _ _ _ (c .before .before .before .before .before .args .text .now)
+    (sym (c .before .before .before .read .ensures) ∙ c .before .start .given .1)
 
 returns : tie.Need-returns
 returns c =

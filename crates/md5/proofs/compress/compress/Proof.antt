@@ -1,7 +1,7 @@
 -- `compress` meets its promise: the rounds are made of the RFC's order and constants.
 use borrow.Author.Needs.{needs}
-use Rattle.rfc1321.specs.Rounds.{round1, round2, round3, round4}
-use Rattle.rounds.specs.TurnLaws.{compressed-by-sums}
+use Rattle.digests.specs.Rounds.{round1, round2, round3, round4}
+use Rattle.md5.specs.SumLaws.{compressed-by-sums}
 use Rattle.md5.proofs.compress.compress.Statement.{statement}
 use Rattle.md5.proofs.compress.compress.Tie as tie
 

@@ -3,11 +3,11 @@ use Prim.Native.Nat.{ℕ, _<_, _^_}
 use mathlib.Core.Path.{_≡_, sym, ap₂, _∙_}
 use mathlib.Core.List.{List, [], _∷_, _++_}
 use borrow.Author.Needs.{needs}
-use Rattle.rfc1321.specs.Lists.{upTo}
-use Rattle.rfc1321.specs.Padding.{paddedByte, paddedWord, blockAt, absorbed}
-use Rattle.rfc1321.specs.Rounds.{round1, round2, round3, round4, compressed}
-use Rattle.rounds.specs.TurnLaws.{compressed-by-sums}
-use Rattle.rfc1321.specs.Md5.{bytes4, initial, registers}
+use Rattle.digests.specs.Lists.{upTo}
+use Rattle.digests.specs.Padding.{paddedByte, paddedWord, blockAt, absorbed}
+use Rattle.digests.specs.Rounds.{round1, round2, round3, round4, compressed}
+use Rattle.md5.specs.SumLaws.{compressed-by-sums}
+use Rattle.digests.specs.Md5.{bytes4, initial, registers}
 use Rattle.md5.specs.Laws.{word-bytes4}
 use Rattle.md5.proofs.compress.compress_eight.Statement.{statement}
 use Rattle.md5.proofs.compress.compress_eight.Tie as tie

@@ -5,9 +5,9 @@ use borrow.Author.Needs.{needs}
 use native.Mathlib.Omega.{arith}
 use native.Mathlib.Numerals.{add-one}
 use lib.ListN.{length}
-use Rattle.rfc1321.specs.Padding.{little, blocks, absorbed}
-use Rattle.rfc1321.specs.Rounds.{compressed}
-use Rattle.rfc1321.specs.Md5.{initial, registers}
+use Rattle.digests.specs.Padding.{little, blocks, absorbed}
+use Rattle.digests.specs.Rounds.{compressed}
+use Rattle.digests.specs.Md5.{initial, registers}
 use Rattle.md5.proofs.compress.registers.Statement.{statement}
 use Rattle.md5.proofs.compress.registers.Tie as tie
 

@@ -3,9 +3,9 @@ use Prim.Native.Nat.{ℕ, _-_, _<_}
 use borrow.Author.Needs.{needs}
 use native.Mathlib.Omega.{arith}
 use lib.ListN.{getD}
-use Rattle.rfc1321.specs.Lists.{Filling, filling-starts, filling-goes-on, filling-ends}
-use Rattle.rfc1321.specs.Rounds.{add}
-use Rattle.rounds.specs.Turns.{sums}
+use Rattle.digests.specs.Lists.{Filling, filling-starts, filling-goes-on, filling-ends}
+use Rattle.digests.specs.Rounds.{add}
+use Rattle.md5.specs.Sums.{sums}
 use Rattle.md5.proofs.Orders.{below-at}
 use Rattle.md5.proofs.sums.sums.Statement.{statement}
 use Rattle.md5.proofs.sums.sums.Tie as tie

@@ -1,2 +1,0 @@
--- What the proof of `join` cites.
-pub mod Places

@@ -1,2 +1,0 @@
--- What the proofs of `card_answers`' functions share.
-pub mod Printed

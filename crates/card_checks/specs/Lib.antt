@@ -1,3 +1,0 @@
--- The definitions that the promises of `card_checks` cite, and its laws.
-pub mod Checks
-pub mod Laws

@@ -1,0 +1,2 @@
+-- What the proofs of `card_answers`' functions share.
+pub mod PrintedLines

@@ -1,5 +1,0 @@
--- What a table means, the checks and the written steps that the promises of the calls cite, and what follows of them at once.
-pub mod Table
-pub mod Checks
-pub mod Steps
-pub mod Passed

@@ -1,2 +1,0 @@
--- What the proofs of `counts`' functions share.
-pub mod Numbers

@@ -1,0 +1,38 @@
+-- 01, What the promises have to say: "Each public function's promise determines its answer and the final contents of what was lent to
+-- it, refused calls included. Prove that two results meeting it are equal." Here is what that says of a promise; the files below say it
+-- of each function's own. A function's promise is `Learnt`, what its callers learn: of the lifetimes k, the arguments a, the answer y and
+-- what was lent as it is at the end, e.
+use mathlib.Core.Path.{_≡_, sym, _∙_, ap}
+use mathlib.Core.List.{List}
+use Prim.Native.Nat.{ℕ}
+use Rattle.refusal.specs.declared.Written.{Written}
+use Rattle.text.specs.Put.{leaves}
+
+-- Two answers that meet the promise, for the same arguments, are equal.
+abbrev pub Answers : {K : Type 0} {A R E : K → Type 0} → ((k : K) → A k → R k → E k → Type 0) → Type 0
+Answers {K} {A} {R} {E} Promise = (k : K) (a : A k) (y z : R k) (e f : E k) → Promise k a y e → Promise k a z f → y ≡ z
+
+-- They are equal as they are seen.
+abbrev pub AnswersSeen : {K : Type 0} {A R E : K → Type 0} {S : Type 0} → ((k : K) → A k → R k → E k → Type 0) → ((k : K) → R k → S) → Type 0
+AnswersSeen {K} {A} {R} {E} Promise seen =
+    (k : K) (a : A k) (y z : R k) (e f : E k) → Promise k a y e → Promise k a z f → seen k y ≡ seen k z
+
+-- What was lent is the same at the end.
+abbrev pub Lent : {K : Type 0} {A R E : K → Type 0} {S : Type 0} → ((k : K) → A k → R k → E k → Type 0) → ((k : K) → E k → S) → Type 0
+Lent {K} {A} {R} {E} Promise lent =
+    (k : K) (a : A k) (y z : R k) (e f : E k) → Promise k a y e → Promise k a z f → lent k e ≡ lent k f
+
+-- Both: the answers are equal, and what was lent is the same at the end.
+abbrev pub AnswersAndLent : {K : Type 0} {A R E : K → Type 0} {S : Type 0} → ((k : K) → A k → R k → E k → Type 0) → ((k : K) → E k → S) → Type 0
+AnswersAndLent {K} {A} {R} {E} Promise lent =
+    (k : K) (a : A k) (y z : R k) (e f : E k) → Promise k a y e → Promise k a z f → (y ≡ z) × (lent k e ≡ lent k f)
+
+-- Of a promise of two equations.
+pub both : {A B : Type 0} {x r s : A} {u c d : B} → (r ≡ x) × (c ≡ u) → (s ≡ x) × (d ≡ u) → (r ≡ s) × (c ≡ d)
+both p q = (p .0 ∙ sym (q .0), p .1 ∙ sym (q .1))
+
+-- Of a writer's promise: what it leaves goes by its answer.
+pub left : (t b : List ℕ) {c d : List ℕ} {answer r s : Written} → (r ≡ answer) × (c ≡ leaves r t b) → (s ≡ answer) × (d ≡ leaves s t b) → (r ≡ s) × (c ≡ d)
+left t b p q =
+    let same = p .0 ∙ sym (q .0) in
+    (same, p .1 ∙ ap (λ (w : Written). leaves w t b) same ∙ sym (q .1))

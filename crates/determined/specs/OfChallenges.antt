@@ -1,0 +1,51 @@
+-- The promises of the crates of counts, challenges and cards determine their results.
+use mathlib.Core.Path.{sym, _∙_}
+use denote.Ref.{now}
+use Rattle.text.proofs.counts.read_count.Reads as read-count
+use Rattle.text.proofs.counts.width.Reads as width
+use Rattle.text.proofs.counts.put_count_and.Reads as put-count-and
+use Rattle.challenge.proofs.reading.read.Reads as read
+use Rattle.challenge.proofs.reading.seed_of.Reads as seed-of
+use Rattle.challenge.proofs.writing.write.Reads as write
+use Rattle.cards.proofs.card_lines.write_lines.Reads as write-lines
+use Rattle.cards.proofs.card_checks.count_asked.Reads as count-asked
+use Rattle.cards.proofs.write_card.Reads as write-card
+use Rattle.cards.proofs.printed.answer.Reads as answer
+use Rattle.determined.specs.Determined.{Answers, AnswersSeen, AnswersAndLent, both, left}
+
+pub read-count-determined : Answers read-count.Learnt
+read-count-determined k a y z e f p q = p ∙ sym q
+
+pub width-determined : Answers width.Learnt
+width-determined k a y z e f p q = p ∙ sym q
+
+pub put-count-and-determined : AnswersAndLent put-count-and.Learnt (λ k e. now (e .0))
+put-count-and-determined k a y z e f p q = both p q
+
+pub read-determined : Answers read.Learnt
+read-determined k a y z e f p q = p ∙ sym q
+
+-- a part of the bytes lent: what is in it, in which bytes, and where it starts
+pub seed-of-determined : AnswersSeen seed-of.Learnt (λ k y. now y)
+seed-of-determined k a y z e f p q = p .0 ∙ sym (q .0)
+
+pub seed-of-bytes-determined : AnswersSeen seed-of.Learnt (λ k y. y .ptr .0)
+seed-of-bytes-determined k a y z e f p q = p .1 ∙ sym (q .1)
+
+pub seed-of-start-determined : AnswersSeen seed-of.Learnt (λ k y. y .ptr .1)
+seed-of-start-determined k a y z e f p q = p .2 ∙ sym (q .2)
+
+pub write-determined : AnswersAndLent write.Learnt (λ k e. now (e .1 .1 .0))
+write-determined k a y z e f p q = left _ _ p q
+
+pub write-lines-determined : AnswersAndLent write-lines.Learnt (λ k e. now (e .1 .1 .1 .0))
+write-lines-determined k a y z e f p q = left _ _ p q
+
+pub count-asked-determined : Answers count-asked.Learnt
+count-asked-determined k a y z e f p q = p ∙ sym q
+
+pub write-card-determined : AnswersAndLent write-card.Learnt (λ k e. now (e .1 .1 .1 .0))
+write-card-determined k a y z e f p q = left _ _ p q
+
+pub answer-determined : AnswersAndLent answer.Learnt (λ k e. now (e .1 .0))
+answer-determined k a y z e f p q = both p q

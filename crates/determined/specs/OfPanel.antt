@@ -1,0 +1,56 @@
+-- The promises of the functions that C calls determine their results, and so do those of the rows that they answer with.
+use mathlib.Core.Path.{sym, _∙_}
+use denote.Ref.{now}
+use Rattle.panel.proofs.lift_md5.Reads as lift-md5
+use Rattle.panel.proofs.lift_password.Reads as lift-password
+use Rattle.panel.proofs.lift_read_reply.Reads as lift-read-reply
+use Rattle.panel.proofs.lift_write_hex.Reads as lift-write-hex
+use Rattle.panel.proofs.lift_write_words.Reads as lift-write-words
+use Rattle.panel.proofs.lift_read_challenge.Reads as lift-read-challenge
+use Rattle.panel.proofs.lift_write_challenge.Reads as lift-write-challenge
+use Rattle.panel.proofs.lift_write_card.Reads as lift-write-card
+use Rattle.panel.proofs.lift_password_of.Reads as lift-password-of
+use Rattle.panel.proofs.lift_bytes_of.Reads as lift-bytes-of
+use Rattle.panel.proofs.structs.reading_row.Reads as reading-row
+use Rattle.panel.proofs.structs.written_row.Reads as written-row
+use Rattle.panel.proofs.structs.challenge_row.Reads as challenge-row
+use Rattle.determined.specs.Determined.{Answers, AnswersAndLent, Lent, both}
+
+pub lift-md5-determined : AnswersAndLent lift-md5.Learnt (λ k e. now (e .1 .0))
+lift-md5-determined k a y z e f p q = both p q
+
+pub lift-password-determined : Answers lift-password.Learnt
+lift-password-determined k a y z e f p q = p ∙ sym q
+
+pub lift-read-reply-determined : Answers lift-read-reply.Learnt
+lift-read-reply-determined k a y z e f p q = p ∙ sym q
+
+pub lift-write-hex-determined : AnswersAndLent lift-write-hex.Learnt (λ k e. now (e .1 .0))
+lift-write-hex-determined k a y z e f p q = both p q
+
+pub lift-write-words-determined : AnswersAndLent lift-write-words.Learnt (λ k e. now (e .1 .0))
+lift-write-words-determined k a y z e f p q = both p q
+
+pub lift-read-challenge-determined : Answers lift-read-challenge.Learnt
+lift-read-challenge-determined k a y z e f p q = p ∙ sym q
+
+pub lift-write-challenge-determined : AnswersAndLent lift-write-challenge.Learnt (λ k e. now (e .1 .1 .0))
+lift-write-challenge-determined k a y z e f p q = both p q
+
+pub lift-write-card-determined : AnswersAndLent lift-write-card.Learnt (λ k e. now (e .1 .1 .1 .0))
+lift-write-card-determined k a y z e f p q = both p q
+
+pub lift-password-of-determined : Answers lift-password-of.Learnt
+lift-password-of-determined k a y z e f p q = p ∙ sym q
+
+pub lift-bytes-of-determined : Lent lift-bytes-of.Learnt (λ k e. now (e .1 .0))
+lift-bytes-of-determined k a y z e f p q = p ∙ sym q
+
+pub reading-row-determined : Answers reading-row.Learnt
+reading-row-determined k a y z e f p q = p ∙ sym q
+
+pub written-row-determined : Answers written-row.Learnt
+written-row-determined k a y z e f p q = p ∙ sym q
+
+pub challenge-row-determined : Answers challenge-row.Learnt
+challenge-row-determined k a y z e f p q = p ∙ sym q

@@ -1,0 +1,60 @@
+-- The promises of `block`, `rounds`, `md5`, `digest`, `inputs`, `password`, `generator` and `eight_bytes` determine their results.
+use mathlib.Core.Path.{sym, _∙_}
+use denote.Ref.{now}
+use Rattle.block.proofs.count.Reads as count
+use Rattle.block.proofs.block.Reads as block
+use Rattle.md5.proofs.rounds.mixed.Reads as mixed
+use Rattle.md5.proofs.compress.compress_eight.Reads as compress-eight
+use Rattle.md5.proofs.compress.registers.Reads as registers
+use Rattle.md5.proofs.digest.digest.Reads as digest
+use Rattle.password.proofs.inputs.check_phrase.Reads as check-phrase
+use Rattle.password.proofs.inputs.check_seed.Reads as check-seed
+use Rattle.password.proofs.inputs.put_lower.Reads as put-lower
+use Rattle.generator.proofs.hashing.hash.Reads as hash
+use Rattle.generator.proofs.hashing.step.Reads as step
+use Rattle.generator.proofs.generate.Reads as generate
+use Rattle.password.proofs.eight_bytes.number_of.Reads as number-of
+use Rattle.password.proofs.eight_bytes.bytes_of.Reads as bytes-of
+use Rattle.determined.specs.Determined.{Answers, AnswersAndLent, both, left}
+
+pub count-determined : Answers count.Learnt
+count-determined k a y z e f p q = p ∙ sym q
+
+pub block-determined : Answers block.Learnt
+block-determined k a y z e f p q = p ∙ sym q
+
+pub mixed-determined : Answers mixed.Learnt
+mixed-determined k a y z e f p q = p ∙ sym q
+
+pub compress-eight-determined : Answers compress-eight.Learnt
+compress-eight-determined k a y z e f p q = p ∙ sym q
+
+pub registers-determined : Answers registers.Learnt
+registers-determined k a y z e f p q = p ∙ sym q
+
+pub digest-determined : AnswersAndLent digest.Learnt (λ k e. now (e .1 .0))
+digest-determined k a y z e f p q = left _ _ p q
+
+pub check-phrase-determined : Answers check-phrase.Learnt
+check-phrase-determined k a y z e f p q = p ∙ sym q
+
+pub check-seed-determined : Answers check-seed.Learnt
+check-seed-determined k a y z e f p q = p ∙ sym q
+
+pub put-lower-determined : AnswersAndLent put-lower.Learnt (λ k e. now (e .0))
+put-lower-determined k a y z e f p q = both p q
+
+pub hash-determined : Answers hash.Learnt
+hash-determined k a y z e f p q = p ∙ sym q
+
+pub step-determined : Answers step.Learnt
+step-determined k a y z e f p q = p ∙ sym q
+
+pub generate-determined : Answers generate.Learnt
+generate-determined k a y z e f p q = p ∙ sym q
+
+pub number-of-determined : Answers number-of.Learnt
+number-of-determined k a y z e f p q = p ∙ sym q
+
+pub bytes-of-determined : Answers bytes-of.Learnt
+bytes-of-determined k a y z e f p q = p ∙ sym q

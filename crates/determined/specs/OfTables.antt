@@ -1,0 +1,163 @@
+-- The promises of `line`, `back`, `leaving`, `port`, `seeds`, `accounts`, `asked`, `controller`, `standing`, `enrolling`, `joining`,
+-- `waiting`, `front`, `offers`, `replied` and `turns` determine their results: lines, accounts and tables as far as their bytes mean
+-- something.
+use mathlib.Core.Path.{_≡_, sym, _∙_}
+use denote.Ref.{now}
+use Rattle.line.proofs.fresh.Reads as line-fresh
+use Rattle.line.proofs.join.Reads as line-join
+use Rattle.line.proofs.departing.leave.Reads as line-leave
+use Rattle.line.proofs.departing.remove.Reads as line-remove
+use Rattle.line.proofs.departing.tick.Reads as line-tick
+use Rattle.line.proofs.count.Reads as count
+use Rattle.line.proofs.has.Reads as has
+use Rattle.line.proofs.front_of.Reads as front-of
+use Rattle.port.proofs.after_wrong.Reads as after-wrong
+use Rattle.port.proofs.wrong_answer.Reads as wrong-answer
+use Rattle.port.proofs.after_right.Reads as after-right
+use Rattle.port.proofs.after_tick.Reads as after-tick
+use Rattle.refusal.specs.declared.Refusal.{Refusal}
+use Rattle.port.specs.declared.Port.{Port}
+use Rattle.port.specs.Port.{cooled, rightly, wrongly, wrongAnswer}
+use Rattle.table.proofs.held.place_of.Reads as place-of
+use Rattle.table.proofs.held.account_at.Reads as account-at
+use Rattle.table.proofs.held.put.Reads as put
+use Rattle.accounts.proofs.seeds.seed_len.Reads as seed-len
+use Rattle.accounts.proofs.seeds.same_seed.Reads as same-seed
+use Rattle.accounts.proofs.values.propose.Reads as propose
+use Rattle.accounts.proofs.lowered.write_challenge.Reads as write-challenge
+use Rattle.accounts.proofs.lowered.lower.Reads as lower
+use Rattle.table.proofs.fresh.Reads as controller-fresh
+use Rattle.login.proofs.enrolling.enrol.Reads as enrol
+use Rattle.login.proofs.enrolling.remove.Reads as enrolling-remove
+use Rattle.login.proofs.joining.join.Reads as joining-join
+use Rattle.login.proofs.leaving.leave.Reads as waiting-leave
+use Rattle.login.proofs.ticking.tick.Reads as waiting-tick
+use Rattle.turns.proofs.turn_checks.check_turn.Reads as check-turn
+use Rattle.turns.proofs.offering.offer.Reads as offer
+use Rattle.turns.proofs.replying.replied.Reads as replied
+use Rattle.turns.proofs.replying.renewed.Reads as renewed
+use Rattle.turns.specs.TurnPart.{outcome}
+use Rattle.turns.proofs.challenge.Reads as challenge
+use Rattle.turns.proofs.reply.Reads as reply
+use Rattle.turns.proofs.renew.Reads as renew
+use Rattle.line.specs.Line.{waiting}
+use Rattle.accounts.specs.Rooms.{roomOf}
+use Rattle.accounts.specs.Accounts.{proposal}
+use Rattle.table.specs.Table.{view}
+use Rattle.table.specs.Steps.{settled, answered}
+use Rattle.determined.specs.Determined.{Answers, AnswersSeen, AnswersAndLent, both, left}
+
+-- A line is seen as the ports that wait, with their accounts, and the turn.
+pub line-fresh-determined : AnswersSeen line-fresh.Learnt (λ k y. waiting y)
+line-fresh-determined k a y z e f p q = p ∙ sym q
+
+pub line-join-determined : AnswersSeen line-join.Learnt (λ k y. waiting y)
+line-join-determined k a y z e f p q = p ∙ sym q
+
+pub line-leave-determined : AnswersSeen line-leave.Learnt (λ k y. waiting y)
+line-leave-determined k a y z e f p q = p ∙ sym q
+
+pub line-remove-determined : AnswersSeen line-remove.Learnt (λ k y. waiting y)
+line-remove-determined k a y z e f p q = p ∙ sym q
+
+pub line-tick-determined : AnswersSeen line-tick.Learnt (λ k y. waiting y)
+line-tick-determined k a y z e f p q = p ∙ sym q
+
+pub count-determined : Answers count.Learnt
+count-determined k a y z e f p q = p .0 ∙ sym (q .0)
+
+pub has-determined : Answers has.Learnt
+has-determined k a y z e f p q = p ∙ sym q
+
+pub front-of-determined : Answers front-of.Learnt
+front-of-determined k a y z e f p q = p ∙ sym q
+
+-- A port's record, given back.
+pub after-wrong-determined : Answers after-wrong.Learnt
+after-wrong-determined k a y z e f p q = p ∙ sym q
+
+pub wrong-answer-determined : Answers wrong-answer.Learnt
+wrong-answer-determined k a y z e f p q = p ∙ sym q
+
+pub after-right-determined : Answers after-right.Learnt
+after-right-determined k a y z e f p q = p ∙ sym q
+
+pub after-tick-determined : Answers after-tick.Learnt
+after-tick-determined k a y z e f p q = p ∙ sym q
+
+-- A port's record, lent. These three are proved by walks by hand, and a promise proved so has no `Learnt`: here is what each says.
+pub lent-tick-determined : (before y z : Port) → y ≡ cooled before → z ≡ cooled before → y ≡ z
+lent-tick-determined before y z p q = p ∙ sym q
+
+pub lent-right-determined : (before y z : Port) → y ≡ rightly before → z ≡ rightly before → y ≡ z
+lent-right-determined before y z p q = p ∙ sym q
+
+pub lent-wrong-determined : (before y z : Port) (r s : Refusal)
+    → (r ≡ wrongAnswer before) × (y ≡ wrongly before) → (s ≡ wrongAnswer before) × (z ≡ wrongly before) → (r ≡ s) × (y ≡ z)
+lent-wrong-determined before y z r s p q = both p q
+
+-- An account is seen as what it means, without the zeros after its seed.
+pub place-of-determined : Answers place-of.Learnt
+place-of-determined k a y z e f p q = p .0 ∙ sym (q .0)
+
+pub account-at-determined : AnswersSeen account-at.Learnt (λ k y. roomOf y)
+account-at-determined k a y z e f p q = p ∙ sym q
+
+pub put-determined : AnswersSeen put.Learnt (λ k y. view y)
+put-determined k a y z e f p q = p ∙ sym q
+
+pub seed-len-determined : Answers seed-len.Learnt
+seed-len-determined k a y z e f p q = p .0 ∙ sym (q .0)
+
+pub same-seed-determined : Answers same-seed.Learnt
+same-seed-determined k a y z e f p q = p ∙ sym q
+
+pub propose-determined : AnswersSeen propose.Learnt (λ k y. proposal y)
+propose-determined k a y z e f p q = p ∙ sym q
+
+pub write-challenge-determined : AnswersAndLent write-challenge.Learnt (λ k e. now (e .1 .0))
+write-challenge-determined k a y z e f p q = left _ _ p q
+
+pub lower-determined : AnswersSeen lower.Learnt (λ k y. roomOf y)
+lower-determined k a y z e f p q = p ∙ sym q
+
+-- A turn is seen as its room, its account, the port's record and the line.
+pub check-turn-determined : Answers check-turn.Learnt
+check-turn-determined k a y z e f p q = p ∙ sym q
+
+pub offer-determined : AnswersSeen offer.Learnt (λ k y. outcome y)
+offer-determined k a y z e f p q = p ∙ sym q
+
+pub replied-determined : AnswersSeen replied.Learnt (λ k y. outcome y)
+replied-determined k a y z e f p q = p ∙ sym q
+
+pub renewed-determined : AnswersSeen renewed.Learnt (λ k y. outcome y)
+renewed-determined k a y z e f p q = p ∙ sym q
+
+-- A table is seen by its view, beside the answer.
+pub controller-fresh-determined : AnswersSeen controller-fresh.Learnt (λ k y. view y)
+controller-fresh-determined k a y z e f p q = p ∙ sym q
+
+pub enrol-determined : AnswersSeen enrol.Learnt (λ k y. settled y)
+enrol-determined k a y z e f p q = p ∙ sym q
+
+pub enrolling-remove-determined : AnswersSeen enrolling-remove.Learnt (λ k y. settled y)
+enrolling-remove-determined k a y z e f p q = p ∙ sym q
+
+pub joining-join-determined : AnswersSeen joining-join.Learnt (λ k y. settled y)
+joining-join-determined k a y z e f p q = p ∙ sym q
+
+pub waiting-leave-determined : AnswersSeen waiting-leave.Learnt (λ k y. settled y)
+waiting-leave-determined k a y z e f p q = p ∙ sym q
+
+pub waiting-tick-determined : AnswersSeen waiting-tick.Learnt (λ k y. view y)
+waiting-tick-determined k a y z e f p q = p ∙ sym q
+
+pub challenge-determined : AnswersAndLent challenge.Learnt (λ k e. now (e .1 .1 .0))
+challenge-determined k a y z e f p q = left _ _ p q
+
+pub reply-determined : AnswersSeen reply.Learnt (λ k y. answered y)
+reply-determined k a y z e f p q = p ∙ sym q
+
+pub renew-determined : AnswersSeen renew.Learnt (λ k y. answered y)
+renew-determined k a y z e f p q = p ∙ sym q

@@ -1,0 +1,1 @@
+// Each public function's promise determines its results. No code.

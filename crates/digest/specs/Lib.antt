@@ -1,2 +1,0 @@
--- The definition that the promise of `digest` cites.
-pub mod Digest

@@ -1,3 +1,0 @@
--- What a turn's checks are on the line and the account alone, and that they are the written ones.
-pub mod Front
-pub mod Laws

@@ -1,0 +1,42 @@
+// The folded hash of a message, and of a password: one step of the chain.
+ghost use mathlib.Core.Path.{_≡_};
+ghost use Prim.Native.Nat.{_≤_, _<_};
+ghost use lib.ListN.{length};
+ghost use Rattle.digests.specs.Padding.{word, little};
+ghost use Rattle.password.specs.Password as spec;
+use crate::hashing::fold::folded;
+use md5::compress::compress_eight;
+use md5::compress::registers;
+
+// The fold of a digest.
+mod fold;
+
+// The folded hash of a message.
+pub fn hash(m: &[u8]) -> u64
+    requires { ⌜ length (now m) ≤ 4096 ⌝ }
+    ensures { λ r. ⌜ r ≡ spec.hash spec.md5 (now (m .entry)) ⌝ }
+{
+    folded(registers(m))
+}
+
+// Four bytes as a word of the block, low-order byte first.
+fn low_word(b0: u64, b1: u64, b2: u64, b3: u64) -> u32
+    requires { ⌜ (b0 < 256) × (b1 < 256) × (b2 < 256) × (b3 < 256) ⌝ }
+    ensures { λ r. ⌜ r ≡ word little b0 b1 b2 b3 ⌝ }
+{
+    (b0 + b1 * 256 + b2 * 65536 + b3 * 16777216) as u32
+}
+
+// The password one count up: the folded hash of the 8 bytes.
+pub fn step(p: u64) -> u64
+    ensures { λ r. ⌜ r ≡ spec.hash spec.md5 (spec.bytesOf p) ⌝ }
+{
+    let first = low_word(
+        (p >> 56) % 256,
+        (p >> 48) % 256,
+        (p >> 40) % 256,
+        (p >> 32) % 256,
+    );
+    let second = low_word((p >> 24) % 256, (p >> 16) % 256, (p >> 8) % 256, p % 256);
+    folded(compress_eight(first, second))
+}

@@ -1,0 +1,147 @@
+-- In a port's turn the challenge is written and read, the generator answers it, and the reply is accepted.
+use Prim.Native.Nat.{ℕ, suc, _+_, _-_, _≤_, _<_}
+use native.Mathlib.Omega.{arith}
+use mathlib.Core.Path.{_≡_, refl, sym, ap, ap₂, _∙_, subst}
+use mathlib.Core.Bool.{Bool, true, false, true≢false, cond, _||_}
+use mathlib.Core.List.{List, [], _∷_, map}
+use borrow.Author.Tests.{le-leb, le-ltb, lt-leb, leb-true}
+use lib.Dec.{leb}
+use lib.ListN.{length, take, drop}
+use lib.Seq.{take-at}
+use Rattle.refusal.specs.declared.Checked.{Checked}
+use Rattle.refusal.specs.declared.Reading.{Reading}
+use Rattle.text.specs.Kinds.{isUpper, isLower, isLetter, isDigit, lowerOf}
+use Rattle.text.specs.Tests.{every, both}
+use Rattle.text.specs.Put.{front}
+use Rattle.password.specs.PhraseAndSeed.{phraseChecked, plain, seedChecked}
+use Rattle.password.specs.Laws.{generated-good}
+use Rattle.password.specs.Bounds.{password-bound}
+use Rattle.password.specs.Password.{Algorithm, bytesOf, hash, password, generated}
+use Rattle.text.specs.Counts.{widthOf}
+use Rattle.challenge.specs.Challenges.{challengeOf, seedOf, challengeWritten}
+use Rattle.readback.specs.ChallengeRead.{written-read, written-seed-read}
+use Rattle.hex.specs.Hex.{hexOf}
+use Rattle.sixwords.specs.Spelling.{wordsOf}
+use Rattle.reply.specs.Reading.{readingOf}
+use Rattle.readback.specs.ReplyRead.{hex-written-read, words-written-read}
+use Rattle.table.specs.declared.Replied.{Replied}
+use Rattle.accounts.specs.Rooms.{Room}
+use Rattle.table.specs.Table.{State, accountOf, turnId}
+use Rattle.table.specs.Steps as Steps
+use Rattle.accounts.specs.Accounts.{lowered}
+use Rattle.table.specs.Steps.{turnChecked, challengeFor, challenge}
+use Rattle.reached.specs.InTurn.{HasTurn}
+use Rattle.grounds.specs.Outcome.{turn-good, turn-holder}
+use Rattle.reached.specs.Day.{Accepts, Day}
+use Rattle.reached.specs.Made.{isKept, Made}
+use Rattle.grounds.specs.Keeps.{account-good}
+use Rattle.grounds.specs.Owned.{turn-there}
+use Rattle.grounds.specs.Replies.{accepted-account, turn-checked, reply-accepted}
+
+-- ---- seeds as they are kept
+
+kept-parts : (b : ℕ) → isKept b ≡ true → (lowerOf b ≡ b) × ((isLetter b || isDigit b) ≡ true)
+kept-parts b e = go (isUpper b) (isLower b) refl refl e
+  where
+    no-upper : isUpper b ≡ true → (isLower b || isDigit b) ≡ true → ⊥
+    no-upper u e =
+        let halves = both (leb 65 b) (leb b 90) u in
+        let low = leb-true 65 b (halves .0) in
+        let high = leb-true b 90 (halves .1) in
+        true≢false (sym e ∙ rw (lt-leb 97 b (omega arith), lt-leb b 57 (omega arith), le-leb 48 b (omega arith)))
+
+    go : (t u : Bool) → isUpper b ≡ t → isLower b ≡ u → (isLower b || isDigit b) ≡ true
+        → (cond t (b + 32) b ≡ b) × (((t || isLower b) || isDigit b) ≡ true)
+    go true u f g e = absurd (no-upper f e)
+    go false u f g e = (refl, e)
+
+pub kept-seed : (seed : List ℕ) → every isKept seed ≡ true → (map lowerOf seed ≡ seed) × (plain seed ≡ true)
+unfolding every plain
+kept-seed [] e = (refl, refl)
+kept-seed (b ∷ s) e =
+    let halves = both (isKept b) (every isKept s) e in
+    let first = kept-parts b (halves .0) in
+    let rest = kept-seed s (halves .1) in
+    (ap₂ (λ (c : ℕ) (t : List ℕ). c ∷ t) (first .0) (rest .0), rw (first .1) (rest .1))
+
+pub seed-checked : (seed : List ℕ) → 1 ≤ length seed → length seed ≤ 16 → plain seed ≡ true → seedChecked seed ≡ Checked.Good
+seed-checked seed a b e = rw (le-leb 1 (length seed) a, le-leb (length seed) 16 b, e)
+
+-- ---- the day, for the account whose turn it is
+
+-- One more hash of what the pass-phrase gives at a count is what it gives at the next.
+next-hash : (phrase seed : List ℕ) (n : ℕ) → 1 < n
+    → hash Algorithm.md5 (bytesOf (password Algorithm.md5 phrase seed (n - 1))) ≡ password Algorithm.md5 phrase seed n
+unfolding password
+next-hash phrase seed n h =
+    let next : suc (n - 1) ≡ n = omega arith in
+    ap (password Algorithm.md5 phrase seed) next
+
+module _ (p : ℕ) (phrase : List ℕ) (s : State) (checked : turnChecked p s ≡ Checked.Good)
+    (stored : accountOf (turnId s) s .password
+    ≡ password Algorithm.md5 phrase (accountOf (turnId s) s .seed) (accountOf (turnId s) s .count)) where
+  -- A text that reads as the password one count down is accepted.
+  reads-accepted : (text : List ℕ)
+      → readingOf text ≡ Reading.Password (password Algorithm.md5 phrase (accountOf (turnId s) s .seed) (accountOf (turnId s) s .count - 1))
+      → Accepts p (turnId s) text (accountOf (turnId s) s .count - 1)
+      (password Algorithm.md5 phrase (accountOf (turnId s) s .seed) (accountOf (turnId s) s .count - 1)) s
+  reads-accepted text r =
+      let old = accountOf (turnId s) s in
+      let w = password Algorithm.md5 phrase (old .seed) (old .count - 1) in
+      let g = turn-good p s checked in
+      let took = reply-accepted p w text s checked r (next-hash phrase (old .seed) (old .count) (g .unused) ∙ sym stored) in
+      let with-id : ℕ → Room = λ j. record { id = j; seed = old .seed; count = old .count - 1; password = w } in
+      record {
+        answered = ap (λ (a : Steps.After Replied). a .answer) took;
+        kept =
+            ap (λ (a : Steps.After Replied). accountOf (turnId s) (a .state)) took
+            ∙ accepted-account p (lowered old w) s g (turn-holder p s g) ∙ ap with-id (turn-holder p s g);
+      }
+
+module _ (p : ℕ) (phrase buffer : List ℕ) (s : State) (m : Made s) (t : HasTurn p (turnId s) s) where
+  turn-day : 1 < accountOf (turnId s) s .count → phraseChecked phrase ≡ Checked.Good
+      → accountOf (turnId s) s .password ≡ password Algorithm.md5 phrase (accountOf (turnId s) s .seed) (accountOf (turnId s) s .count)
+      → length (challengeFor s) ≤ length buffer → Day p (turnId s) phrase buffer s
+  unfolding challenge challengeWritten
+  turn-day unused long stored room =
+      let facts = turn-there p (turnId s) s m t in
+      let old = accountOf (turnId s) s in
+      let seed = old .seed in
+      let count = old .count - 1 in
+      let good = account-good (turnId s) s (facts .0) (m .good) in
+      let keeps = kept-seed seed (good .seed-kept) in
+      let right = seed-checked seed (good .seed-from) (good .seed-to) (keeps .1) in
+      let most = good .count-to in
+      let low : count ≤ 9999 = omega arith in
+      let checked = turn-checked p s (facts .1) (facts .2) (t .front) (facts .0) unused in
+      let new = password Algorithm.md5 phrase seed count in
+      let small = password-bound Algorithm.md5 phrase seed count in
+      let written : take (length (challengeFor s)) (front (challengeFor s) buffer) ≡ challengeFor s =
+      take-at (challengeFor s) (drop (length (challengeFor s)) buffer) (length (challengeFor s)) refl in
+      let seed-read = ap seedOf written ∙ written-seed-read seed count right low ∙ keeps .0 in
+      record {
+        written = length (challengeFor s);
+        count = count;
+        start = 9 + widthOf count;
+        len = length seed;
+        used = length (challengeFor s);
+        generated-as = new;
+        challenge-written = rw (checked, right, le-ltb 9999 count low, le-leb (length (challengeFor s)) (length buffer) room);
+        challenge-read = ap challengeOf written ∙ written-read seed count right low;
+        password-generated =
+            ap (λ (q : List ℕ). generated Algorithm.md5 phrase q count) seed-read
+            ∙ generated-good Algorithm.md5 phrase seed count long right low;
+        count-less = omega arith;
+        generated-is = refl;
+        hex-accepted = reads-accepted p phrase s checked stored (hexOf new) (hex-written-read new small);
+        words-accepted = reads-accepted p phrase s checked stored (wordsOf new) (words-written-read new small);
+      }
+
+pub day : (p i : ℕ) (phrase buffer : List ℕ) (s : State) → Made s → HasTurn p i s → 1 < accountOf i s .count → phraseChecked phrase ≡ Checked.Good
+    → accountOf i s .password ≡ password Algorithm.md5 phrase (accountOf i s .seed) (accountOf i s .count)
+    → length (challengeFor s) ≤ length buffer → Day p i phrase buffer s
+day p i phrase buffer s m t =
+    subst (λ (j : ℕ). 1 < accountOf j s .count → phraseChecked phrase ≡ Checked.Good
+    → accountOf j s .password ≡ password Algorithm.md5 phrase (accountOf j s .seed) (accountOf j s .count)
+    → length (challengeFor s) ≤ length buffer → Day p j phrase buffer s) (t .account)
+    (turn-day p phrase buffer s m (record { front = t .front; account = refl }))

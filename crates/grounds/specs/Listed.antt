@@ -1,0 +1,90 @@
+-- The words of the letter's first demand: the list of refusal numbers, and which of them each table call may answer.
+use Prim.Native.Nat.{ℕ}
+use mathlib.Core.Path.{_≡_}
+use mathlib.Core.Bool.{Bool, true, false, _||_}
+use mathlib.Core.List.{List, [], _∷_}
+use lib.Dec.{eqb}
+use Rattle.refusal.specs.declared.Reading.{Reading}
+use Rattle.refusal.specs.declared.Written.{Written}
+use Rattle.refusal.specs.Numbers.{listingOf}
+use Rattle.challenge.specs.declared.reading.Challenge.{Challenge}
+use Rattle.text.specs.Put.{writtenOf}
+use Rattle.md5.specs.Digest.{digestOf}
+use Rattle.password.specs.Password.{Algorithm, generated}
+use Rattle.challenge.specs.Challenges.{challengeOf}
+use Rattle.reply.specs.Reading.{readingOf}
+use Rattle.hex.specs.Hex.{hexOf}
+use Rattle.cards.specs.Cards.{cardWritten}
+use Rattle.table.specs.Table.{fresh}
+use Rattle.reached.specs.Calls.{Call, Answer, writtenAnswer, answer, numbers, run}
+
+-- One of the numbers is n.
+abbrev pub isIn : ℕ → List ℕ → Bool
+isIn n [] = false
+isIn n (m ∷ ms) = eqb n m || isIn n ms
+
+-- 01, 'Refusal numbers': the numbers of the table, from top to bottom.
+abbrev pub listed : List ℕ
+listed =
+    10 ∷ 11 ∷ 12 ∷ 13 ∷ 20 ∷ 21 ∷ 22 ∷ 23 ∷ 24 ∷ 25 ∷ 30 ∷ 31 ∷ 32 ∷ 33 ∷ 40 ∷ 50 ∷ 51 ∷ 52 ∷ 53 ∷ 54 ∷ 55 ∷ 56 ∷ 57 ∷ 58 ∷ 59 ∷ 60
+    ∷ 61 ∷ 62 ∷ 63 ∷ 70 ∷ []
+
+-- 01, 'Table, ports and turns': the refusals of each call, in the order of its checks.
+abbrev pub refusalsOf : Call → List ℕ
+refusalsOf (Call.Enrol id count seed password) = 50 ∷ 51 ∷ 23 ∷ 24 ∷ 52 ∷ 53 ∷ []
+refusalsOf (Call.Remove id) = 54 ∷ []
+refusalsOf (Call.Join port id) = 55 ∷ 54 ∷ 56 ∷ 57 ∷ 58 ∷ []
+refusalsOf (Call.Leave port) = 55 ∷ 59 ∷ []
+refusalsOf (Call.Challenge port room) = 55 ∷ 59 ∷ 60 ∷ 58 ∷ 40 ∷ []
+refusalsOf (Call.Reply port text) = 55 ∷ 59 ∷ 60 ∷ 58 ∷ 30 ∷ 31 ∷ 32 ∷ 33 ∷ 61 ∷ 62 ∷ []
+refusalsOf (Call.Renew port count seed password text) =
+    55 ∷ 59 ∷ 60 ∷ 58 ∷ 51 ∷ 23 ∷ 24 ∷ 63 ∷ 30 ∷ 31 ∷ 32 ∷ 33 ∷ 61 ∷ 62 ∷ []
+refusalsOf Call.Tick = []
+
+-- The answer is no refusal, or one whose number is among these.
+abbrev pub Within : List ℕ → Answer → Type 0
+Within numbers Answer.Done = Unit {0}
+Within numbers (Answer.Count count) = Unit {0}
+Within numbers (Answer.Wrote n) = Unit {0}
+Within numbers (Answer.Refused why) = isIn (listingOf why .0) numbers ≡ true
+
+-- The same of a reading, of a challenge that was read, and of a text that was to be written.
+abbrev pub ReadWithin : List ℕ → Reading → Type 0
+ReadWithin numbers (Reading.Password password) = Unit {0}
+ReadWithin numbers (Reading.Refused why) = isIn (listingOf why .0) numbers ≡ true
+
+abbrev pub ChallengeWithin : List ℕ → Challenge → Type 0
+ChallengeWithin numbers (Challenge.Read count start len used) = Unit {0}
+ChallengeWithin numbers (Challenge.Refused why) = isIn (listingOf why .0) numbers ≡ true
+
+abbrev pub WriteWithin : List ℕ → Written → Type 0
+WriteWithin numbers written = Within numbers (writtenAnswer written)
+
+-- ---- the number of an answer, 0 where it is no refusal
+
+abbrev pub readNumber : Reading → ℕ
+readNumber (Reading.Password password) = 0
+readNumber (Reading.Refused why) = listingOf why .0
+
+abbrev pub writtenNumber : Written → ℕ
+writtenNumber (Written.Wrote n) = 0
+writtenNumber (Written.Refused why) = listingOf why .0
+
+abbrev pub challengeNumber : Challenge → ℕ
+challengeNumber (Challenge.Read count start len used) = 0
+challengeNumber (Challenge.Refused why) = listingOf why .0
+
+-- The number that the call answers after the others, from the fresh table.
+unfoldable pub callNumber : List Call → Call → ℕ
+callNumber before c = numbers (answer c (run before fresh)) .0
+
+-- The number n is the answer of some call: of the generator, the digest, the challenge reader, the reply's reader, the hex writer, the
+-- card writer, or the table.
+pub data Given (n : ℕ) : Type 0 where
+  generator : (phrase seed : List ℕ) (count : ℕ) → readNumber (generated Algorithm.md5 phrase seed count) ≡ n → Given n
+  digest : (m : List ℕ) (room : ℕ) → writtenNumber (digestOf m room) ≡ n → Given n
+  challenge : (text : List ℕ) → challengeNumber (challengeOf text) ≡ n → Given n
+  reply : (text : List ℕ) → readNumber (readingOf text) ≡ n → Given n
+  hex : (p room : ℕ) → writtenNumber (writtenOf room (hexOf p)) ≡ n → Given n
+  card : (phrase text : List ℕ) (k room : ℕ) → writtenNumber (cardWritten phrase text k room) ≡ n → Given n
+  call : (before : List Call) (c : Call) → callNumber before c ≡ n → Given n

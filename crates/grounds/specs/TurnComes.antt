@@ -1,0 +1,136 @@
+-- Along quiet calls a waiting port comes to the front before its ticks have passed.
+use Prim.Native.Nat.{ℕ, _-_, _≤_, zero-le}
+use native.Mathlib.Omega.{arith}
+use mathlib.Core.Path.{_≡_, refl, sym, ap, _∙_}
+use mathlib.Core.Bool.{true, false, true≢false, _&&_, or-true}
+use mathlib.Core.List.{List, [], _∷_, _++_}
+use borrow.Author.Tests.{eqb-true}
+use lib.Dec.{eqb}
+use Rattle.text.specs.Tests.{every, cases, both}
+use Rattle.line.specs.declared.Place.{Place}
+use Rattle.line.specs.Line.{ofPort, ofAccount, some, joined}
+use Rattle.refusal.specs.declared.Checked.{Checked}
+use Rattle.refusal.specs.Checks.{unless}
+use Rattle.table.specs.Table.{State, fresh, hasTurn, turnId, withLine}
+use Rattle.table.specs.Steps.{refused, done, joinChecked, join}
+use Rattle.reached.specs.Calls.{Call, after, run}
+use Rattle.reached.specs.InTurn.{Reached, tickOf, ticks, quiet, quietMeanwhile, HasTurn, TurnBegins}
+use Rattle.grounds.specs.Outcome.{outcome, join-good}
+use Rattle.reached.specs.Made.{TurnRight, Standing}
+use Rattle.grounds.specs.Standing.{standing-joined}
+use Rattle.grounds.specs.Moved.{moved, standing-moved}
+use Rattle.grounds.specs.Wait.{waitOf}
+use Rattle.grounds.specs.WaitFalls.{isPlace, leads, Waits, waits-moved, waits-joined}
+
+-- ---- the line stands right after any calls
+
+pub standing-after : (c : Call) (s : State) → Standing (s .line) → Standing (after c s .line)
+standing-after c s h = standing-moved c (s .line) (moved c s (outcome c s)) h
+
+pub standing-run : (calls : List Call) (s : State) → Standing (s .line) → Standing (run calls s .line)
+unfolding run
+standing-run [] s h = h
+standing-run (c ∷ cs) s h = standing-run cs (after c s) (standing-after c s h)
+
+pub standing-fresh : Standing (fresh .line)
+standing-fresh = record { known = tt; once = tt; turn = refl }
+
+-- ---- the port in front
+
+pub leads-turn : (p i : ℕ) (s : State) → leads (isPlace p i) (s .line .places) ≡ true → HasTurn p i s
+leads-turn p i s e = let facts = go (s .line .places) e in record { front = facts .0; account = facts .1 }
+  where
+    go : (l : List Place) → leads (isPlace p i) l ≡ true
+        → (hasTurn p (record { rooms = s .rooms; ports = s .ports; line = record { places = l; turn = s .line .turn } }) ≡ true)
+        × (turnId (record { rooms = s .rooms; ports = s .ports; line = record { places = l; turn = s .line .turn } }) ≡ i)
+    go [] e = absurd (true≢false (sym e))
+    go (x ∷ xs) e =
+        let halves = both (ofPort p x) (ofAccount i x) e in
+        (halves .0, eqb-true (x .id) i (halves .1))
+
+pub turn-leads : (p i : ℕ) (s : State) → (hasTurn p s && eqb (turnId s) i) ≡ leads (isPlace p i) (s .line .places)
+turn-leads p i s = go (s .line .places)
+  where
+    go : (l : List Place)
+        → (hasTurn p (record { rooms = s .rooms; ports = s .ports; line = record { places = l; turn = s .line .turn } })
+        && eqb (turnId (record { rooms = s .rooms; ports = s .ports; line = record { places = l; turn = s .line .turn } })) i)
+        ≡ leads (isPlace p i) l
+    go [] = refl
+    go (x ∷ xs) = refl
+
+-- Who waits and isn't in front has at least a tick to wait.
+some-wait : (p i : ℕ) (l : List Place) (turn : ℕ) → TurnRight l turn → some (isPlace p i) l ≡ true → leads (isPlace p i) l ≡ false
+    → 1 ≤ waitOf (isPlace p i) l turn
+unfolding some waitOf
+some-wait p i [] turn t h n = absurd (true≢false (sym h))
+some-wait p i (x ∷ xs) turn t h n = let from = t .0 in rw n (omega arith)
+
+-- ---- along the calls
+
+module _ (p i : ℕ) where
+  now-begins : (limit : ℕ) (calls : List Call) (s : State) → leads (isPlace p i) (s .line .places) ≡ true → TurnBegins p i limit calls s
+  unfolding run ticks
+  now-begins limit calls s e =
+      record { early = []; late = calls; parted = refl; soon = zero-le; turn = leads-turn p i s e }
+
+  later-begins : (limit : ℕ) (c : Call) (cs : List Call) (s : State) → tickOf c ≤ limit
+      → TurnBegins p i (limit - tickOf c) cs (after c s) → TurnBegins p i limit (c ∷ cs) s
+  unfolding run ticks
+  later-begins limit c cs s k b =
+      let soon = b .soon in
+      record { early = c ∷ b .early; late = b .late; parted = ap (λ (l : List Call). c ∷ l) (b .parted); soon = omega arith; turn = b .turn }
+
+  pub wait-ends : (calls : List Call) (limit : ℕ) (s : State) → Standing (s .line) → Waits p i (s .line) limit
+      → quietMeanwhile p i calls s ≡ true → limit ≤ ticks calls → TurnBegins p i limit calls s
+  unfolding quietMeanwhile ticks
+  wait-ends [] limit s h k q t =
+      cases (leads (isPlace p i) (s .line .places)) (λ e. now-begins limit [] s e)
+      (λ e.
+      let least = some-wait p i (s .line .places) (s .line .turn) (h .turn) (k .stands) e in
+      let most = k .most-wait in
+      absurd (omega arith))
+  wait-ends (c ∷ cs) limit s h k q t =
+      cases (leads (isPlace p i) (s .line .places)) (λ e. now-begins limit (c ∷ cs) s e)
+      (λ e.
+      let halves = both (quiet p i c) (quietMeanwhile p i cs (after c s)) (rw (turn-leads p i s, e) at q) in
+      let next = waits-moved p i c (s .line) limit (moved c s (outcome c s)) (halves .0) h e k in
+      later-begins limit c cs s (next .1)
+      (wait-ends cs (limit - tickOf c) (after c s) (standing-after c s h) (next .0) (halves .1) (omega arith)))
+
+-- Calls that are all quiet are quiet meanwhile.
+pub all-meanwhile : (p i : ℕ) (calls : List Call) (s : State) → every (quiet p i) calls ≡ true → quietMeanwhile p i calls s ≡ true
+unfolding every quietMeanwhile
+all-meanwhile p i [] s q = refl
+all-meanwhile p i (c ∷ cs) s q =
+    let halves = both (quiet p i c) (every (quiet p i) cs) q in
+    rw (halves .0, all-meanwhile p i cs (after c s) (halves .1)) (or-true (hasTurn p s && eqb (turnId s) i))
+
+-- ---- joining
+
+pub joined-waits : (p i : ℕ) (s : State) → Standing (s .line) → join p i s .answer ≡ Checked.Good
+    → Standing (join p i s .state .line) × Waits p i (join p i s .state .line) 180
+unfolding join
+joined-waits p i s h e = go (joinChecked p i s) refl e
+  where
+    go : (k : Checked) → joinChecked p i s ≡ k → unless (refused s) k (done (withLine (joined p i (s .line)) s)) .answer ≡ Checked.Good
+        → Standing (unless (refused s) k (done (withLine (joined p i (s .line)) s)) .state .line)
+        × Waits p i (unless (refused s) k (done (withLine (joined p i (s .line)) s)) .state .line) 180
+    go (Checked.Refused why) f e = let z : _≡_ {A = ℕ} 0 1 = cc in absurd (omega arith)
+    go Checked.Good f e =
+        let facts = join-good p i s f in
+        (standing-joined p i (s .line) (facts .0) (facts .2) h, waits-joined p i (s .line) (facts .0) (facts .2) h)
+
+-- ---- tables that calls make
+
+run-append : (a b : List Call) (s : State) → run (a ++ b) s ≡ run b (run a s)
+unfolding run
+run-append [] b s = refl
+run-append (c ∷ cs) b s = run-append cs b (after c s)
+
+pub reached-run : (s : State) (calls : List Call) → Reached s → Reached (run calls s)
+reached-run s calls r =
+    record { calls = r .calls ++ calls; reached = run-append (r .calls) calls fresh ∙ ap (run calls) (r .reached) }
+
+pub reached-after : (s : State) (c : Call) → Reached s → Reached (after c s)
+unfolding run
+reached-after s c r = reached-run s (c ∷ []) r

@@ -1,3 +1,0 @@
--- The definitions that the promises of `inputs` cite, and their laws.
-pub mod Checks
-pub mod Laws

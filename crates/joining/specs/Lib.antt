@@ -1,2 +1,0 @@
--- Only what private functions cite: the calls' promises are over `controller`'s definitions.
-pub mod Inside

@@ -1,2 +1,0 @@
--- What the proofs of `leaving`'s functions share.
-pub mod Places

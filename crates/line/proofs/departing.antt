@@ -1,0 +1,2 @@
+-- What the proofs of `leaving`'s functions share.
+pub mod Staying

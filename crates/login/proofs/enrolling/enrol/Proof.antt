@@ -1,0 +1,69 @@
+-- `enrol` meets its promise: refused as checked, or the account stands in the first free room.
+use mathlib.Core.Path.{_≡_, sym, ap, _∙_}
+use borrow.Author.Needs.{needs}
+use Rattle.refusal.specs.declared.Checked.{Checked}
+use Rattle.accounts.specs.Rooms.{free}
+use Rattle.accounts.specs.Accounts.{Proposal, newRoom, valuesChecked}
+use Rattle.table.specs.Table.{view, withRoom}
+use Rattle.table.specs.Steps.{enrolChecked}
+use Rattle.table.specs.Passed.{enrol-refused, enrol-done}
+use Rattle.login.specs.Inside.{enrolFound}
+use Rattle.login.proofs.enrolling.Order.{enrol-found, enrol-room}
+use Rattle.login.proofs.enrolling.enrol.Statement.{statement}
+use Rattle.login.proofs.enrolling.enrol.Tie as tie
+
+abbrev from : tie.After-check-enrol → tie.Start
+from c = c .before .before .before .before .before
+
+-- What was checked, of the values that were proposed.
+found : (c : tie.After-check-enrol) → c .check-enrol .result
+    ≡ enrolFound (from c .args .id) (valuesChecked (from c .args .count) (from c .args .seed .now) free)
+    (c .before .before .before .place-of .result) (c .before .before .place-of2 .result)
+found c =
+    c .check-enrol .ensures
+    ∙ ap (λ (p : Proposal). enrolFound (from c .args .id) (p .checked) (c .before .before .before .place-of .result) (c .before .before .place-of2 .result))
+    (c .before .propose .ensures)
+
+checked : (c : tie.After-check-enrol) → c .check-enrol .result
+    ≡ enrolChecked (from c .args .id) (from c .args .count) (from c .args .seed .now) (view (from c .args .table))
+checked c =
+    let a = from c .args in
+    found c
+    ∙ enrol-found (a .id) (a .count) (a .seed .now) (view (a .table)) (c .before .before .before .place-of .result) (c .before .before .place-of2 .result)
+    (c .before .before .before .place-of .ensures .1) (c .before .before .place-of2 .ensures .1)
+
+returns : tie.Need-returns
+returns c =
+    let asked = c .before .before in
+    let a = from asked .args in
+    let s = view (a .table) in
+    ap (λ (k : Checked). record { answer = k; state = s }) (c .enum-told .given .1)
+    ∙ sym (enrol-refused (a .id) (a .count) (a .seed .now) s (a .password .now) _ (sym (checked asked) ∙ c .enum-told .given .1))
+
+returns-2 : tie.Need-returns-2
+returns-2 c =
+    let told = c .before .before in
+    let asked = told .before .before in
+    let a = from asked .args in
+    let s = view (a .table) in
+    let new = newRoom (a .id) (a .count) (a .seed .now) (a .password .now) in
+    let good = told .enum-told2 .given .1 in
+    let room : _ ≡ new = ap (λ (p : Proposal). p .room) (asked .before .propose .ensures) ∙ enrol-room (a .id) (valuesChecked (a .count) (a .seed .now) free)
+    (asked .before .before .before .place-of .result) (asked .before .before .place-of2 .result) new (sym (found asked) ∙ good) in
+    let after = c .put .ensures ∙ (λ i. withRoom (asked .before .before .place-of2 .ensures .0 i) (room i) s) in
+    (λ i. record { answer = good i; state = after i })
+    ∙ sym (enrol-done (a .id) (a .count) (a .seed .now) s (a .password .now) (sym (checked asked) ∙ good))
+
+pub enrol-spec : {M : Type 1} → statement M
+enrol-spec =
+    tie.close
+    (tie.spec
+    (λ c κs. search needs)
+    (λ c κs. search needs)
+    (λ c κs. search needs)
+    (λ c κs. search needs)
+    (λ c. search needs)
+    returns
+    (λ c. search needs)
+    (λ c κs. search needs)
+    returns-2)

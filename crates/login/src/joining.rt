@@ -1,0 +1,72 @@
+// The call of a port that joins the line.
+ghost use mathlib.Core.Path.{_≡_};
+ghost use lib.Dec.{eqb};
+ghost use lib.ListN.{getD};
+ghost use Rattle.table.specs.Table.{view, freshPort};
+ghost use Rattle.table.specs.Steps as steps;
+ghost use Rattle.login.specs.Inside.{joinOrder};
+use port::Port;
+use refusal::Checked;
+use refusal::Refusal;
+use table::Settled;
+use table::Table;
+use table::held::account_at;
+use table::held::place_of;
+
+// Whether a port is open. One that isn't there is.
+fn is_open(ports: [Port; 4], port: u8) -> bool
+    ensures { λ r. ⌜ r ≡ eqb (getD ports port freshPort .shut) 0 ⌝ }
+{
+    if 3 < port {
+        return true;
+    }
+    let p = port as usize;
+    let own = ports[p];
+    own.shut == 0
+}
+
+// Join's checks in their order: 55, 54, 56, 57, 58.
+fn join_answer(known: bool, there: bool, out: bool, unshut: bool, unused: bool) -> Checked
+    ensures { λ r. ⌜ r ≡ joinOrder known there out unshut unused ⌝ }
+{
+    if !known {
+        return Checked::Refused(Refusal::PortUnknown);
+    }
+    if !there {
+        return Checked::Refused(Refusal::AccountMissing);
+    }
+    if !out {
+        return Checked::Refused(Refusal::PortInLine);
+    }
+    if !unshut {
+        return Checked::Refused(Refusal::PortShut);
+    }
+    if !unused {
+        return Checked::Refused(Refusal::AccountUsedUp);
+    }
+    Checked::Good
+}
+
+fn check_join(table: Table, port: u8, id: u16) -> Checked
+    ensures { λ r. ⌜ r ≡ steps.joinChecked port id (view table) ⌝ }
+{
+    let account = account_at(table, place_of(table, id));
+    let waiting = table.line;
+    let out = !line::has(waiting, port);
+    let ports = table.ports;
+    let unshut = is_open(ports, port);
+    join_answer(port <= 3, account.id != 0, out, unshut, 1 < account.count)
+}
+
+pub fn join(mut table: Table, port: u8, id: u16) -> Settled
+    ensures { λ r. ⌜ steps.settled r ≡ steps.join port id (view table) ⌝ }
+{
+    let answer = check_join(table, port, id);
+    if let Checked::Refused(_) = answer {
+        return Settled { table, answer };
+    }
+    let waiting = table.line;
+    let line = line::join(waiting, port, id);
+    table.line = line;
+    Settled { table, answer }
+}

@@ -1,0 +1,34 @@
+// The call of a port that leaves the line.
+ghost use mathlib.Core.Path.{_≡_};
+ghost use Rattle.table.specs.Table.{view};
+ghost use Rattle.table.specs.Steps as steps;
+use refusal::Checked;
+use refusal::Refusal;
+use table::Settled;
+use table::Table;
+
+fn check_leave(table: Table, port: u8) -> Checked
+    ensures { λ r. ⌜ r ≡ steps.leaveChecked port (view table) ⌝ }
+{
+    if 3 < port {
+        return Checked::Refused(Refusal::PortUnknown);
+    }
+    let waiting = table.line;
+    if line::has(waiting, port) {
+        return Checked::Good;
+    }
+    Checked::Refused(Refusal::PortNotInLine)
+}
+
+pub fn leave(mut table: Table, port: u8) -> Settled
+    ensures { λ r. ⌜ steps.settled r ≡ steps.leave port (view table) ⌝ }
+{
+    let answer = check_leave(table, port);
+    if let Checked::Refused(_) = answer {
+        return Settled { table, answer };
+    }
+    let waiting = table.line;
+    let line = line::departing::leave(waiting, port);
+    table.line = line;
+    Settled { table, answer }
+}

@@ -1,0 +1,21 @@
+-- The digest's bytes, written by two registers at a time.
+use Prim.Native.Nat.{ℕ, _+_, _-_}
+use mathlib.Core.Path.{_≡_, subst}
+use mathlib.Core.List.{List, _++_}
+use lib.ListN.{length}
+use borrow.Rule.Slice.PartMut.{midOf, putMid}
+use Rattle.text.specs.Put.{Put}
+use Rattle.text.specs.PutLaws.{then-put}
+use Rattle.digests.specs.declared.State.{State}
+use Rattle.digests.specs.Md5.{bytes4, registers, md5}
+
+pub digest-put : (m : List ℕ) (q : State) (b b₁ ys : List ℕ) (n k : ℕ) → q ≡ registers m
+    → Put (bytes4 (q .a) ++ bytes4 (q .b)) b b₁ n
+    → Put (bytes4 (q .c) ++ bytes4 (q .d)) (midOf n (length b₁ - n) b₁) ys k
+    → Put (md5 m) b (putMid n (length b₁ - n) b₁ ys) (n + k)
+unfolding md5
+digest-put m q b b₁ ys n k e first second =
+    subst
+    (λ (p : State). Put (bytes4 (p .a) ++ bytes4 (p .b) ++ bytes4 (p .c) ++ bytes4 (p .d)) b (putMid n (length b₁ - n) b₁ ys) (n + k))
+    e
+    (then-put (bytes4 (q .a) ++ bytes4 (q .b)) (bytes4 (q .c) ++ bytes4 (q .d)) b b₁ ys n k first second)

@@ -1,0 +1,3 @@
+-- What the promises of `panel` cite.
+pub mod Answers
+pub mod Laid

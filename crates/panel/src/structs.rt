@@ -1,0 +1,90 @@
+// Answers as C sees them: `refusal` is 0 or the paper's number, and the values are 0 beside a refusal.
+ghost use mathlib.Core.Path.{_≡_};
+ghost use Rattle.panel.specs.Answers.{challengeRow, readingRow, writtenRow};
+use challenge::reading::Challenge;
+use refusal::Reading;
+use refusal::Written;
+use refusal::listing_of;
+
+#[repr(C)]
+pub struct LiftReading {
+    pub password: u64,
+    pub refusal: u32,
+    pub place: u32, // 1 to 6 with refusal 31, else 0
+}
+
+#[repr(C)]
+pub struct LiftChallenge {
+    pub seed_at: usize,
+    pub seed_len: usize,
+    pub used: usize,
+    pub count: u32,
+    pub refusal: u32,
+}
+
+#[repr(C)]
+pub struct LiftWritten {
+    pub written: usize,
+    pub refusal: u32,
+}
+
+pub fn reading_row(reading: Reading) -> LiftReading
+    ensures { λ r. ⌜ r ≡ readingRow reading ⌝ }
+{
+    match reading {
+        Reading::Password(password) => LiftReading {
+            password,
+            refusal: 0,
+            place: 0,
+        },
+        Reading::Refused(why) => {
+            let listing = listing_of(why);
+            LiftReading {
+                password: 0,
+                refusal: listing.0,
+                place: listing.1,
+            }
+        }
+    }
+}
+
+pub fn written_row(written: Written) -> LiftWritten
+    ensures { λ r. ⌜ r ≡ writtenRow written ⌝ }
+{
+    match written {
+        Written::Wrote(written) => LiftWritten {
+            written,
+            refusal: 0,
+        },
+        Written::Refused(why) => LiftWritten {
+            written: 0,
+            refusal: listing_of(why).0,
+        },
+    }
+}
+
+pub fn challenge_row(challenge: Challenge) -> LiftChallenge
+    ensures { λ r. ⌜ r ≡ challengeRow challenge ⌝ }
+{
+    match challenge {
+        Challenge::Read {
+            count,
+            start,
+            len,
+            used,
+        } => LiftChallenge {
+            seed_at: start,
+            seed_len: len,
+            used,
+            count,
+            refusal: 0,
+        },
+        Challenge::Refused(why) => LiftChallenge {
+            seed_at: 0,
+            seed_len: 0,
+            used: 0,
+            count: 0,
+            refusal: listing_of(why).0,
+        },
+    }
+}

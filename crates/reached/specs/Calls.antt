@@ -1,0 +1,79 @@
+-- All calls as data, and what a run of them does to a table.
+use Prim.Native.Nat.{ℕ}
+use mathlib.Core.List.{List, [], _∷_}
+use Rattle.refusal.specs.declared.Refusal.{Refusal}
+use Rattle.refusal.specs.declared.Checked.{Checked}
+use Rattle.refusal.specs.declared.Written.{Written}
+use Rattle.refusal.specs.declared.Listing.{Listing}
+use Rattle.refusal.specs.Numbers.{listingOf}
+use Rattle.table.specs.declared.Replied.{Replied}
+use Rattle.table.specs.Table.{State}
+use Rattle.table.specs.Steps.{enrol, remove, join, leave, challenge, reply, renew, tick}
+
+-- A call with its arguments. Challenge is lent a buffer, of which only the room counts.
+pub data Call : Type 0 where
+  Enrol : (id count : ℕ) (seed password : List ℕ) → Call
+  Remove : (id : ℕ) → Call
+  Join : (port id : ℕ) → Call
+  Leave : (port : ℕ) → Call
+  Challenge : (port room : ℕ) → Call
+  Reply : (port : ℕ) (text : List ℕ) → Call
+  Renew : (port count : ℕ) (seed password text : List ℕ) → Call
+  Tick : Call
+
+-- The table after a call. Challenge only looks.
+abbrev pub after : Call → State → State
+after (Call.Enrol id count seed password) s = enrol id count seed password s .state
+after (Call.Remove id) s = remove id s .state
+after (Call.Join port id) s = join port id s .state
+after (Call.Leave port) s = leave port s .state
+after (Call.Challenge port room) s = s
+after (Call.Reply port text) s = reply port text s .state
+after (Call.Renew port count seed password text) s = renew port count seed password text s .state
+after Call.Tick s = tick s
+
+-- What a call answers: nothing to report, a new count, bytes written, or a refusal.
+pub data Answer : Type 0 where
+  Done : Answer
+  Count : ℕ → Answer
+  Wrote : ℕ → Answer
+  Refused : Refusal → Answer
+
+abbrev pub checkedAnswer : Checked → Answer
+checkedAnswer Checked.Good = Answer.Done
+checkedAnswer (Checked.Refused why) = Answer.Refused why
+
+abbrev pub repliedAnswer : Replied → Answer
+repliedAnswer (Replied.Accepted count) = Answer.Count count
+repliedAnswer (Replied.Refused why) = Answer.Refused why
+
+abbrev pub writtenAnswer : Written → Answer
+writtenAnswer (Written.Wrote n) = Answer.Wrote n
+writtenAnswer (Written.Refused why) = Answer.Refused why
+
+abbrev pub answer : Call → State → Answer
+answer (Call.Enrol id count seed password) s = checkedAnswer (enrol id count seed password s .answer)
+answer (Call.Remove id) s = checkedAnswer (remove id s .answer)
+answer (Call.Join port id) s = checkedAnswer (join port id s .answer)
+answer (Call.Leave port) s = checkedAnswer (leave port s .answer)
+answer (Call.Challenge port room) s = writtenAnswer (challenge port room s)
+answer (Call.Reply port text) s = repliedAnswer (reply port text s .answer)
+answer (Call.Renew port count seed password text) s = repliedAnswer (renew port count seed password text s .answer)
+answer Call.Tick s = Answer.Done
+
+-- This paper's number for an answer, and its value: 0 with the count or the bytes, else the refusal's with 31's place.
+abbrev pub numbers : Answer → Listing
+numbers Answer.Done = record { 0 = 0; 1 = 0 }
+numbers (Answer.Count count) = record { 0 = 0; 1 = count }
+numbers (Answer.Wrote n) = record { 0 = 0; 1 = n }
+numbers (Answer.Refused why) = listingOf why
+
+-- The table after several, the first first.
+unfoldable pub run : List Call → State → State
+run [] s = s
+run (call ∷ calls) s = run calls (after call s)
+
+-- The answers of several, in order.
+unfoldable pub answers : List Call → State → List Answer
+answers [] s = []
+answers (call ∷ calls) s = answer call s ∷ answers calls (after call s)

@@ -1,0 +1,51 @@
+-- The words of the day of one password: a reply that steps an account down, a reply that is accepted, and the way from the challenge to it.
+use Prim.Native.Nat.{ℕ, _+_}
+use mathlib.Core.Path.{_≡_}
+use mathlib.Core.List.{List}
+use lib.ListN.{length, take}
+use Rattle.refusal.specs.declared.Reading.{Reading}
+use Rattle.refusal.specs.declared.Written.{Written}
+use Rattle.text.specs.Put.{leaves}
+use Rattle.password.specs.Password.{Algorithm, bytesOf, hash, password, generated}
+use Rattle.challenge.specs.declared.reading.Challenge.{Challenge}
+use Rattle.challenge.specs.Challenges.{challengeOf, seedOf}
+use Rattle.hex.specs.Hex.{hexOf}
+use Rattle.sixwords.specs.Spelling.{wordsOf}
+use Rattle.table.specs.declared.Replied.{Replied}
+use Rattle.accounts.specs.Rooms.{Room}
+use Rattle.table.specs.Table.{State, accountOf}
+use Rattle.table.specs.Steps.{challengeFor, challenge, reply}
+
+-- The account after an accepted reply, beside the one before: the same id and seed, the count lower by 1, and the password whose
+-- hash is the one that was stored.
+pub record SteppedDown (old new : Room) : Type 0 where
+  pub same-id : new .id ≡ old .id
+  pub same-seed : new .seed ≡ old .seed
+  pub count-lower : new .count + 1 ≡ old .count
+  pub old-is-hash : old .password ≡ hash Algorithm.md5 (bytesOf (new .password))
+
+-- The port's reply with this text is accepted: the answer is that count, and the account i has it then, with that password and its
+-- seed as before.
+pub record Accepts (p i : ℕ) (text : List ℕ) (count new : ℕ) (s : State) : Type 0 where
+  pub answered : reply p text s .answer ≡ Replied.Accepted count
+  pub kept : accountOf i (reply p text s .state) ≡ record { id = i; seed = accountOf i s .seed; count = count; password = new }
+
+-- Challenge writes a text into the buffer; read, it gives a count and a seed; with them and the pass-phrase the generator gives a
+-- password; and the reply with it, in hex or in words, is accepted. The count is the stored one less 1, and
+-- the account has then what the pass-phrase gives at it.
+pub record Day (p i : ℕ) (phrase buffer : List ℕ) (s : State) : Type 0 where
+  pub written : ℕ
+  pub count : ℕ
+  pub start : ℕ
+  pub len : ℕ
+  pub used : ℕ
+  pub generated-as : ℕ
+  pub challenge-written : challenge p (length buffer) s ≡ Written.Wrote written
+  pub challenge-read : challengeOf (take written (leaves (Written.Wrote written) (challengeFor s) buffer)) ≡ Challenge.Read count start len used
+  pub password-generated :
+      generated Algorithm.md5 phrase (seedOf (take written (leaves (Written.Wrote written) (challengeFor s) buffer))) count
+      ≡ Reading.Password generated-as
+  pub count-less : count + 1 ≡ accountOf i s .count
+  pub generated-is : generated-as ≡ password Algorithm.md5 phrase (accountOf i s .seed) count
+  pub hex-accepted : Accepts p i (hexOf generated-as) count generated-as s
+  pub words-accepted : Accepts p i (wordsOf generated-as) count generated-as s

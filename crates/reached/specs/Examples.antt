@@ -1,0 +1,43 @@
+-- Document 01's examples of the table, computed from the written steps.
+use Prim.Native.Nat.{ℕ}
+use mathlib.Core.Path.{_≡_, refl}
+use mathlib.Core.List.{List, [], _∷_, map}
+use lib.ListN.{replicate}
+use Rattle.text.specs.Tests.{every}
+use Rattle.refusal.specs.declared.Refusal.{Refusal}
+use Rattle.text.specs.Quoted.{codes}
+use Rattle.password.specs.PhraseAndSeed.{plain}
+use Rattle.password.specs.Password.{numberAfter}
+use Rattle.line.specs.Line.{some, joined, others, turnWithout, without, ticked}
+use Rattle.accounts.specs.Rooms.{placeOf}
+use Rattle.table.specs.Table.{fresh}
+use Rattle.table.specs.Steps.{enrolChecked, enrol, joinChecked, join, tick}
+use Rattle.reached.specs.Calls.{Call, Answer, run, answers}
+
+-- Account 1 with the count 99; port 0 joins for it.
+abbrev enrolled : Call
+enrolled = Call.Enrol 1 99 (codes "AValidSeed") (0 ∷ 0 ∷ 0 ∷ 0 ∷ 0 ∷ 0 ∷ 0 ∷ 7 ∷ [])
+
+abbrev ticks : ℕ → List Call
+ticks n = replicate n Call.Tick
+
+-- "empty table: 60 ticks change nothing"
+pub empty-ticks : run (ticks 60) fresh ≡ fresh
+unfolding run tick ticked
+empty-ticks = refl
+
+-- "the first enrol, then join, has the turn at once": port 0 is in front, with 60 ticks.
+pub first-join : run (enrolled ∷ Call.Join 0 1 ∷ []) fresh .line ≡ record { places = record { port = 0; id = 1 } ∷ []; turn = 60 }
+unfolding run enrolChecked enrol joinChecked join placeOf some joined plain every numberAfter codes
+first-join = refl
+
+-- "and loses it on tick 60", not before: one tick left after 59.
+pub first-turn : map (λ n. run (enrolled ∷ Call.Join 0 1 ∷ ticks n) fresh .line) (59 ∷ 60 ∷ [])
+    ≡ record { places = record { port = 0; id = 1 } ∷ []; turn = 1 } ∷ record { places = []; turn = 0 } ∷ []
+unfolding run enrolChecked enrol joinChecked join placeOf some joined plain every numberAfter codes tick ticked without others turnWithout
+first-turn = refl
+
+-- "Enrolling `A Seed`: 24."
+pub spaced-seed : answers (Call.Enrol 1 99 (codes "A Seed") [] ∷ []) fresh ≡ Answer.Refused Refusal.SeedCharacter ∷ []
+unfolding answers enrolChecked enrol plain every codes placeOf
+spaced-seed = refl

@@ -1,0 +1,164 @@
+-- The letter's second demand for replies: what is written reads back, and what is accepted is exactly what some password is
+-- written as, apart from case and white space. That the texts are RFC 2289's is not said here; the vectors say it.
+use Prim.Native.Nat.{ℕ, _+_, _^_, _≤_, _<_}
+use native.Mathlib.Omega.{arith}
+use mathlib.Core.Path.{_≡_, refl, sym, _∙_, ap, ap₂}
+use mathlib.Core.Logic.{_↔_}
+use mathlib.Core.Bool.{Bool, true, false, cond, _&&_}
+use mathlib.Core.List.{List, [], _∷_, map}
+use lib.Dec.{eqb, ltb}
+use lib.ListN.{length, take, length-map}
+use borrow.Author.Tests.{le-ltb, ltb-true, eq-eqb, eqb-true}
+use Rattle.refusal.specs.declared.Refusal.{Refusal}
+use Rattle.refusal.specs.declared.Reading.{Reading}
+use Rattle.refusal.specs.declared.Written.{Written}
+use Rattle.text.specs.Kinds.{isSolid, lowerOf}
+use Rattle.text.specs.Tests.{every, every-weaker, both}
+use Rattle.text.specs.Scan.{parted, tokens, unspaced}
+use Rattle.text.specs.ScanLaws.{tokens-one, unspaced-solid}
+use Rattle.text.specs.Digits.{isHex, digitsOf, numberOf}
+use Rattle.text.specs.DigitLaws.{length-digits, digits-hex, hex-solid, number-digits, digits-number, number-lt, number-lower, every-lower-hex, hex-digits}
+use Rattle.text.specs.Put.{Writes}
+use Rattle.text.specs.PutLaws.{written-front}
+use Rattle.dictionary.specs.declared.Found.{Found}
+use Rattle.dictionary.specs.Dictionary.{wordAt, placeOf}
+use Rattle.sixwords.specs.Places.{placesOf, allPlaces}
+use Rattle.sixwords.specs.Laws.{places-count, places-all}
+use Rattle.hex.specs.Hex.{hexOf, sixteenDigits, hexReading}
+use Rattle.sixwords.specs.Spelling.{spaced, sixWordsOf, wordsOf}
+use Rattle.sixwords.specs.SpellingLaws.{words-length}
+use Rattle.reply.specs.Reading.{sixWords, upperText, summed, foundAfter, wordsReading, readingOf}
+use Rattle.reply.specs.Laws.{six-parts}
+use Rattle.readback.specs.PlacesRead.{number-places, number-accepted}
+use Rattle.readback.specs.WordsRead.{places-words, places-upper, places-found, tokens-spaced, found-all, found-password, found-tokens}
+
+-- ---- the two ways of reading, behind the length
+pub reads-words : (text : List ℕ) → length text ≤ 128 → sixWords (tokens text) ≡ true → readingOf text ≡ wordsReading (map upperText (tokens text))
+unfolding readingOf
+reads-words text h e = rw (le-ltb 128 (length text) h, e)
+
+pub reads-hex : (text : List ℕ) → length text ≤ 128 → sixWords (tokens text) ≡ false → readingOf text ≡ hexReading (unspaced text)
+unfolding readingOf
+reads-hex text h e = rw (le-ltb 128 (length text) h, e)
+
+same-password : {p q : ℕ} → Reading.Password p ≡ Reading.Password q → p ≡ q
+same-password e = cc
+
+-- ---- words
+-- a text of six tokens of one to four letters is accepted exactly if its words in upper case are those of a password, and as that one
+pub words-accepted : (text : List ℕ) → length text ≤ 128 → sixWords (tokens text) ≡ true → (p : ℕ) →
+    (readingOf text ≡ Reading.Password p) ↔ ((p < 2 ^ 64) × (map upperText (tokens text) ≡ sixWordsOf p))
+words-accepted text h e p = (accepted, written)
+  where
+    accepted : readingOf text ≡ Reading.Password p → (p < 2 ^ 64) × (map upperText (tokens text) ≡ sixWordsOf p)
+    accepted r =
+        let ts = tokens text in
+        let parts = six-parts ts e in
+        let found = found-password 1 [] (map placeOf (map upperText ts)) p (sym (reads-words text h e) ∙ r) in
+        let count : length (found .0) ≡ 6 =
+        sym (length-map (found .0) Found.At) ∙ sym (ap length (found .1)) ∙ length-map (map upperText ts) placeOf ∙ length-map ts upperText
+        ∙ parts .0 in
+        let number = number-accepted (found .0) count p .0 (found .2) in
+        (number .0, found-tokens ts (found .0) (parts .1) (found .1) ∙ ap (map wordAt) (sym (number .1)))
+
+    written : (p < 2 ^ 64) × (map upperText (tokens text) ≡ sixWordsOf p) → readingOf text ≡ Reading.Password p
+    written w =
+        let all = places-all p in
+        reads-words text h e
+        ∙ ap wordsReading (w .1)
+        ∙ ap (foundAfter 1 []) (places-found (placesOf p) all)
+        ∙ found-all 1 [] (placesOf p)
+        ∙ ap summed (number-places p (w .0))
+
+-- the tokens of the written words are the six words
+pub words-tokens : (p : ℕ) → tokens (wordsOf p) ≡ sixWordsOf p
+unfolding parted allPlaces
+words-tokens p = go (placesOf p) (places-all p)
+  where
+    go : (ps : List ℕ) → allPlaces ps ≡ true → tokens (spaced (map wordAt ps)) ≡ map wordAt ps
+    go [] e = refl
+    go (i ∷ ps) e =
+        let halves = both (ltb i 2048) (allPlaces ps) e in
+        tokens-spaced i ps (ltb-true i 2048 (halves .0)) (halves .1)
+
+six-words-of : (p : ℕ) → sixWords (sixWordsOf p) ≡ true
+unfolding sixWords
+six-words-of p =
+    ap₂ (λ (a b : Bool). a && b) (eq-eqb (length (sixWordsOf p)) 6 (length-map (placesOf p) wordAt ∙ places-count p))
+    (places-words (placesOf p) (places-all p))
+
+-- the words that a password is written with read as it
+pub words-written-read : (p : ℕ) → p < 2 ^ 64 → readingOf (wordsOf p) ≡ Reading.Password p
+words-written-read p h =
+    words-accepted (wordsOf p) (omega (arith, words-length p)) (ap sixWords (words-tokens p) ∙ six-words-of p) p .1
+    (h, ap (map upperText) (words-tokens p) ∙ places-upper (placesOf p) (places-all p))
+
+-- and two passwords written alike are one
+pub words-injective : (p q : ℕ) → p < 2 ^ 64 → q < 2 ^ 64 → wordsOf p ≡ wordsOf q → p ≡ q
+words-injective p q h k e = same-password (sym (words-written-read p h) ∙ ap readingOf e ∙ words-written-read q k)
+
+-- ---- hex
+hex-reading : (u : List ℕ) → length u ≡ 16 → every isHex u ≡ true → hexReading u ≡ Reading.Password (numberOf 16 u)
+unfolding hexReading sixteenDigits
+hex-reading u n e = rw (eq-eqb (length u) 16 n, e)
+
+hex-told : (u : List ℕ) (p : ℕ) → hexReading u ≡ Reading.Password p → (length u ≡ 16) × (every isHex u ≡ true) × (numberOf 16 u ≡ p)
+unfolding hexReading sixteenDigits
+hex-told u p r = go (eqb (length u) 16) refl (every isHex u) refl r
+  where
+    go : (a : Bool) → eqb (length u) 16 ≡ a → (b : Bool) → every isHex u ≡ b →
+        cond (a && b) (Reading.Password (numberOf 16 u)) (Reading.Refused Refusal.ReplyUnread) ≡ Reading.Password p →
+        (length u ≡ 16) × (every isHex u ≡ true) × (numberOf 16 u ≡ p)
+    go true e true f q = (eqb-true (length u) 16 e, f, same-password q)
+    go true e false f q = let z : _≡_ {A = ℕ} 0 1 = cc in absurd (omega arith)
+    go false e b f q = let z : _≡_ {A = ℕ} 0 1 = cc in absurd (omega arith)
+
+digits-of-hex : (u : List ℕ) → length u ≡ 16 → every isHex u ≡ true → digitsOf 16 16 (numberOf 16 u) ≡ map lowerOf u
+unfolding digitsOf
+digits-of-hex u n e =
+    let count : 16 ≡ 0 + length u = omega arith in
+    ap (λ (k : ℕ). digitsOf 16 k (numberOf 16 u)) count ∙ digits-number 16 0 0 u (omega arith) (omega arith) (hex-digits u e)
+
+-- any other text is accepted exactly if its bytes without white space are the digits of a password, and as that one
+pub hex-accepted : (text : List ℕ) → length text ≤ 128 → sixWords (tokens text) ≡ false → (p : ℕ) →
+    (readingOf text ≡ Reading.Password p) ↔ ((p < 2 ^ 64) × (map lowerOf (unspaced text) ≡ hexOf p))
+hex-accepted text h e p = (accepted, written)
+  where
+    accepted : readingOf text ≡ Reading.Password p → (p < 2 ^ 64) × (map lowerOf (unspaced text) ≡ hexOf p)
+    accepted r =
+        let told = hex-told (unspaced text) p (sym (reads-hex text h e) ∙ r) in
+        let bound = number-lt 16 0 1 (unspaced text) (omega arith) (hex-digits (unspaced text) (told .1)) in
+        let small : numberOf 16 (unspaced text) < 2 ^ 64 = rw (told .0) at bound in
+        (rw (told .2) at small, sym (ap (digitsOf 16 16) (sym (told .2)) ∙ digits-of-hex (unspaced text) (told .0) (told .1)))
+
+    written : (p < 2 ^ 64) × (map lowerOf (unspaced text) ≡ hexOf p) → readingOf text ≡ Reading.Password p
+    written w =
+        let u = unspaced text in
+        let count : length u ≡ 16 = sym (length-map u lowerOf) ∙ ap length (w .1) ∙ length-digits 16 16 p in
+        let digits : every isHex u ≡ true = sym (every-lower-hex u) ∙ ap (every isHex) (w .1) ∙ digits-hex 16 p in
+        let number : numberOf 16 u ≡ p = sym (number-lower 16 0 u) ∙ ap (numberOf 16) (w .1) ∙ number-digits 16 16 p (omega arith) (omega arith)
+        (w .0) in
+        reads-hex text h e ∙ hex-reading u count digits ∙ ap Reading.Password number
+
+one-token : (t : List ℕ) → sixWords (t ∷ []) ≡ false
+unfolding sixWords
+one-token t = refl
+
+pub hex-written-read : (p : ℕ) → p < 2 ^ 64 → readingOf (hexOf p) ≡ Reading.Password p
+hex-written-read p h =
+    let solid = every-weaker isHex isSolid hex-solid (hexOf p) (digits-hex 16 p) in
+    let count = length-digits 16 16 p in
+    let one = tokens-one (hexOf p) solid (omega arith) in
+    let number = number-digits 16 16 p (omega arith) (omega arith) h in
+    hex-accepted (hexOf p) (omega arith) (ap sixWords one ∙ one-token (hexOf p)) p .1
+    (h, ap (map lowerOf) (unspaced-solid (hexOf p) solid) ∙ sym (digits-of-hex (hexOf p) count (digits-hex 16 p)) ∙ ap (digitsOf 16 16) number)
+
+pub hex-injective : (p q : ℕ) → p < 2 ^ 64 → q < 2 ^ 64 → hexOf p ≡ hexOf q → p ≡ q
+hex-injective p q h k e = same-password (sym (hex-written-read p h) ∙ ap readingOf e ∙ hex-written-read q k)
+
+-- ---- what a writer left in a buffer reads back
+pub words-read-back : (p : ℕ) (b b′ : List ℕ) (n : ℕ) → p < 2 ^ 64 → Writes (wordsOf p) b b′ (Written.Wrote n) → readingOf (take n b′) ≡ Reading.Password p
+words-read-back p b b′ n h w = ap readingOf (written-front (wordsOf p) b b′ n w) ∙ words-written-read p h
+
+pub hex-read-back : (p : ℕ) (b b′ : List ℕ) (n : ℕ) → p < 2 ^ 64 → Writes (hexOf p) b b′ (Written.Wrote n) → readingOf (take n b′) ≡ Reading.Password p
+hex-read-back p b b′ n h w = ap readingOf (written-front (hexOf p) b b′ n w) ∙ hex-written-read p h

@@ -1,0 +1,110 @@
+// The calls that need no table: passwords, replies, challenges, cards.
+ghost use lib.ListN.{length};
+ghost use Rattle.replay.specs.ReplayWords.{Within};
+use crate::lending::filled;
+use crate::lending::first;
+use crate::printing::after_space;
+use crate::printing::byte;
+use crate::printing::bytes;
+use crate::printing::good;
+use crate::printing::reading;
+use crate::printing::refused;
+use crate::printing::written;
+use crate::script_words::Given;
+use crate::script_words::number;
+use crate::script_words::short;
+use crate::script_words::text;
+use challenge::reading::Challenge;
+use refusal::Written;
+
+fn md5(data: &[u8]) {
+    let mut digest = [0u8; 16];
+    match md5::digest::digest(data, &mut digest) {
+        Written::Wrote(_) => {
+            good();
+            byte(b' ');
+            bytes(&digest);
+            byte(b'\n');
+        }
+        Written::Refused(why) => refused(why),
+    }
+}
+
+fn generate(line: &[u8], given: Given)
+    requires { ⌜ Within given (length (now line)) ⌝ }
+{
+    let phrase = text(line, given, 0);
+    let seed = text(line, given, 1);
+    reading(generator::generate(phrase, seed, short(given, 2) as u32));
+}
+
+fn chal(text: &[u8]) {
+    match challenge::reading::read(text) {
+        Challenge::Read {
+            count,
+            start,
+            len,
+            used,
+        } => {
+            good();
+            after_space(count as u64);
+            after_space(start as u64);
+            after_space(len as u64);
+            after_space(used as u64);
+            byte(b'\n');
+        }
+        Challenge::Refused(why) => refused(why),
+    }
+}
+
+// What a writer answers, on the buffer that it is lent.
+fn write(call: usize, line: &[u8], given: Given, lent: &mut [u8]) -> Written
+    requires { ⌜ Within given (length (now line)) ⌝ }
+{
+    match call {
+        2 => sixwords::spelling::write_words(number(given, 0), lent),
+        3 => hex::write_hex(number(given, 0), lent),
+        6 => challenge::writing::write(text(line, given, 0), short(given, 1) as u32, lent),
+        _ => cards::write_card(
+            text(line, given, 0),
+            text(line, given, 1),
+            short(given, 2) as u32,
+            lent,
+        ),
+    }
+}
+
+// A writer's call, which is lent that many bytes.
+fn writer(call: usize, line: &[u8], given: Given, room: u64)
+    requires { ⌜ Within given (length (now line)) ⌝ }
+{
+    let mut buf = filled();
+    let lent = first(&mut buf, room);
+    let result = write(call, line, given, lent);
+    written(result, lent);
+}
+
+fn prog(stdin: &[u8]) {
+    let mut stdout = [0u8; 5148];
+    let n = cards::printed::answer(stdin, &mut stdout);
+    good();
+    byte(b' ');
+    bytes(&stdout[..n]);
+    byte(b'\n');
+}
+
+// Answers a call whose words are of its kinds, by its number.
+pub fn answer(call: usize, line: &[u8], given: Given)
+    requires { ⌜ Within given (length (now line)) ⌝ }
+{
+    match call {
+        0 => md5(text(line, given, 0)),
+        1 => generate(line, given),
+        4 => reading(reply_reader::read(text(line, given, 0))),
+        5 => chal(text(line, given, 0)),
+        6 => writer(call, line, given, number(given, 2)),
+        7 => writer(call, line, given, number(given, 3)),
+        8 => prog(text(line, given, 0)),
+        _ => writer(call, line, given, number(given, 1)),
+    }
+}

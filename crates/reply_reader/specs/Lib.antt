@@ -1,0 +1,2 @@
+-- What the promises of `reply_reader` cite.
+pub mod Inside

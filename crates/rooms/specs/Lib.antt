@@ -1,3 +1,0 @@
--- What a room means, and who stands in which.
-pub mod Rooms
-pub mod Laws

@@ -1,2 +1,0 @@
--- What the proofs of `standing`'s functions share.
-pub mod Places

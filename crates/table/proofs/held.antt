@@ -1,0 +1,2 @@
+-- What the proofs of `standing`'s functions share.
+pub mod Found

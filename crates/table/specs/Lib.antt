@@ -1,0 +1,6 @@
+-- What a table means, the checks and the written steps that the promises of the calls cite, and what follows of them at once.
+pub mod Table
+pub mod TableChecks
+pub mod Steps
+pub mod Passed
+pub mod HeldLaws

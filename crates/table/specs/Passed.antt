@@ -1,0 +1,199 @@
+-- What the checks of each call say where they found nothing wrong, and each call's two ways: a refusal, or what it does.
+use Prim.Native.Nat.{ℕ, _-_}
+use mathlib.Core.Path.{_≡_, refl}
+use mathlib.Core.Bool.{Bool, true, false, not, _&&_}
+use mathlib.Core.List.{List}
+use native.Mathlib.Omega.{arith}
+use lib.Dec.{eqb, leb, ltb}
+use Rattle.refusal.specs.declared.Refusal.{Refusal}
+use Rattle.refusal.specs.declared.Checked.{Checked}
+use Rattle.refusal.specs.declared.Written.{Written}
+use Rattle.refusal.specs.Checks.{unless}
+use Rattle.password.specs.PhraseAndSeed.{seedChecked}
+use Rattle.challenge.specs.Challenges.{challengeWritten}
+use Rattle.refusal.specs.Checks.{must}
+use Rattle.line.specs.Line.{standsIn, joined, left, removed}
+use Rattle.accounts.specs.Rooms.{free, holds, placeOf}
+use Rattle.accounts.specs.Accounts.{newRoom}
+use Rattle.table.specs.Table.{State, isThere, accountOf, portOf, hasTurn, turnId, withRoom, withLine}
+use Rattle.table.specs.TableChecks.{seedNew}
+use Rattle.table.specs.Steps as steps
+use Rattle.table.specs.Steps.{enrolChecked, joinChecked, leaveChecked, turnChecked, renewChecked}
+
+-- A check and those behind it.
+pub both-passed : (check rest : Checked) → unless Checked.Refused check rest ≡ Checked.Good → (check ≡ Checked.Good) × (rest ≡ Checked.Good)
+both-passed Checked.Good rest e = (refl, e)
+both-passed (Checked.Refused why) rest e = let z : _≡_ {A = ℕ} 0 1 = cc in absurd (omega arith)
+
+-- The last check.
+pub last-passed : (check : Checked) → unless Checked.Refused check Checked.Good ≡ Checked.Good → check ≡ Checked.Good
+last-passed check e = both-passed check Checked.Good e .0
+
+-- A test that must hold.
+pub test-passed : (test : Bool) (why : Refusal) → must test why ≡ Checked.Good → test ≡ true
+test-passed true why e = refl
+test-passed false why e = let z : _≡_ {A = ℕ} 0 1 = cc in absurd (omega arith)
+
+-- ---- Enrol
+
+pub record EnrolPassed (id count : ℕ) (seed : List ℕ) (s : State) : Type 0 where
+  pub given : not (eqb id 0) ≡ true
+  pub within : (leb 2 count && leb count 9999) ≡ true
+  pub good : seedChecked seed ≡ Checked.Good
+  pub new : not (isThere id s) ≡ true
+  pub room : holds 0 (s .rooms) ≡ true
+
+module _ (id count : ℕ) (seed : List ℕ) (s : State) where
+  pub enrol-passed : enrolChecked id count seed s ≡ Checked.Good → EnrolPassed id count seed s
+  unfolding enrolChecked
+  enrol-passed e =
+      let a = both-passed _ _ e in
+      let b = both-passed _ _ (a .1) in
+      let c = both-passed _ _ (b .1) in
+      let d = both-passed _ _ (c .1) in
+      record {
+        given = test-passed _ _ (a .0);
+        within = test-passed _ _ (b .0);
+        good = c .0;
+        new = test-passed _ _ (d .0);
+        room = test-passed _ _ (last-passed _ (d .1));
+      }
+
+  pub enrol-refused : (password : List ℕ) (why : Refusal) → enrolChecked id count seed s ≡ Checked.Refused why
+      → steps.enrol id count seed password s ≡ steps.refused s why
+  unfolding steps.enrol
+  enrol-refused password why e = rw e
+
+  pub enrol-done : (password : List ℕ) → enrolChecked id count seed s ≡ Checked.Good
+      → steps.enrol id count seed password s ≡ steps.done (withRoom (placeOf 0 (s .rooms)) (newRoom id count seed password) s)
+  unfolding steps.enrol
+  enrol-done password e = rw e
+
+-- ---- Remove
+
+module _ (id : ℕ) (s : State) where
+  pub remove-refused : isThere id s ≡ false → steps.remove id s ≡ steps.refused s Refusal.AccountMissing
+  unfolding steps.remove
+  remove-refused e = rw e
+
+  pub remove-done : isThere id s ≡ true
+      → steps.remove id s ≡ steps.done (withLine (removed id (s .line)) (withRoom (placeOf id (s .rooms)) free s))
+  unfolding steps.remove
+  remove-done e = rw e
+
+-- ---- Join
+
+pub record JoinPassed (port id : ℕ) (s : State) : Type 0 where
+  pub known : leb port 3 ≡ true
+  pub there : isThere id s ≡ true
+  pub out : not (standsIn port (s .line)) ≡ true
+  pub unshut : eqb (portOf port s .shut) 0 ≡ true
+  pub unused : ltb 1 (accountOf id s .count) ≡ true
+
+module _ (port id : ℕ) (s : State) where
+  pub join-passed : joinChecked port id s ≡ Checked.Good → JoinPassed port id s
+  unfolding joinChecked
+  join-passed e =
+      let a = both-passed _ _ e in
+      let b = both-passed _ _ (a .1) in
+      let c = both-passed _ _ (b .1) in
+      let d = both-passed _ _ (c .1) in
+      record {
+        known = test-passed _ _ (a .0);
+        there = test-passed _ _ (b .0);
+        out = test-passed _ _ (c .0);
+        unshut = test-passed _ _ (d .0);
+        unused = test-passed _ _ (last-passed _ (d .1));
+      }
+
+  pub join-refused : (why : Refusal) → joinChecked port id s ≡ Checked.Refused why → steps.join port id s ≡ steps.refused s why
+  unfolding steps.join
+  join-refused why e = rw e
+
+  pub join-done : joinChecked port id s ≡ Checked.Good → steps.join port id s ≡ steps.done (withLine (joined port id (s .line)) s)
+  unfolding steps.join
+  join-done e = rw e
+
+-- ---- Leave
+
+module _ (port : ℕ) (s : State) where
+  pub leave-passed : leaveChecked port s ≡ Checked.Good → (leb port 3 ≡ true) × (standsIn port (s .line) ≡ true)
+  unfolding leaveChecked
+  leave-passed e =
+      let a = both-passed _ _ e in
+      (test-passed _ _ (a .0), test-passed _ _ (last-passed _ (a .1)))
+
+  pub leave-refused : (why : Refusal) → leaveChecked port s ≡ Checked.Refused why → steps.leave port s ≡ steps.refused s why
+  unfolding steps.leave
+  leave-refused why e = rw e
+
+  pub leave-done : leaveChecked port s ≡ Checked.Good → steps.leave port s ≡ steps.done (withLine (left port (s .line)) s)
+  unfolding steps.leave
+  leave-done e = rw e
+
+-- ---- Challenge, Reply and Renew
+
+pub record TurnPassed (port : ℕ) (s : State) : Type 0 where
+  pub known : leb port 3 ≡ true
+  pub inside : standsIn port (s .line) ≡ true
+  pub front : hasTurn port s ≡ true
+  pub there : isThere (turnId s) s ≡ true
+  pub unused : ltb 1 (accountOf (turnId s) s .count) ≡ true
+
+pub record RenewPassed (port count : ℕ) (seed : List ℕ) (s : State) : Type 0 where
+  pub turn : turnChecked port s ≡ Checked.Good
+  pub within : (leb 2 count && leb count 9999) ≡ true
+  pub good : seedChecked seed ≡ Checked.Good
+  pub new : seedNew seed (turnId s) s ≡ Checked.Good
+
+module _ (port : ℕ) (s : State) where
+  pub turn-passed : turnChecked port s ≡ Checked.Good → TurnPassed port s
+  unfolding turnChecked
+  turn-passed e =
+      let a = both-passed _ _ e in
+      let b = both-passed _ _ (a .1) in
+      let c = both-passed _ _ (b .1) in
+      let d = both-passed _ _ (c .1) in
+      record {
+        known = test-passed _ _ (a .0);
+        inside = test-passed _ _ (b .0);
+        front = test-passed _ _ (c .0);
+        there = test-passed _ _ (d .0);
+        unused = test-passed _ _ (last-passed _ (d .1));
+      }
+
+  pub challenge-refused : (room : ℕ) (why : Refusal) → turnChecked port s ≡ Checked.Refused why → steps.challenge port room s ≡ Written.Refused why
+  unfolding steps.challenge
+  challenge-refused room why e = rw e
+
+  pub challenge-done : (room : ℕ) → turnChecked port s ≡ Checked.Good
+      → steps.challenge port room s ≡ challengeWritten (accountOf (turnId s) s .seed) (accountOf (turnId s) s .count - 1) room
+  unfolding steps.challenge
+  challenge-done room e = rw e
+
+  pub reply-refused : (text : List ℕ) (why : Refusal) → turnChecked port s ≡ Checked.Refused why → steps.reply port text s ≡ steps.replyRefused s why
+  unfolding steps.reply
+  reply-refused text why e = rw e
+
+  pub reply-done : (text : List ℕ) → turnChecked port s ≡ Checked.Good → steps.reply port text s ≡ steps.replyRead port text s
+  unfolding steps.reply
+  reply-done text e = rw e
+
+module _ (port count : ℕ) (seed : List ℕ) (s : State) where
+  pub renew-passed : renewChecked port count seed s ≡ Checked.Good → RenewPassed port count seed s
+  unfolding renewChecked
+  renew-passed e =
+      let a = both-passed _ _ e in
+      let b = both-passed _ _ (a .1) in
+      let c = both-passed _ _ (b .1) in
+      record { turn = a .0; within = test-passed _ _ (b .0); good = c .0; new = last-passed _ (c .1) }
+
+  pub renew-refused : (new text : List ℕ) (why : Refusal) → renewChecked port count seed s ≡ Checked.Refused why
+      → steps.renew port count seed new text s ≡ steps.replyRefused s why
+  unfolding steps.renew
+  renew-refused new text why e = rw e
+
+  pub renew-done : (new text : List ℕ) → renewChecked port count seed s ≡ Checked.Good
+      → steps.renew port count seed new text s ≡ steps.renewRead port count seed new text s
+  unfolding steps.renew
+  renew-done new text e = rw e

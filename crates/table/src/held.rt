@@ -1,0 +1,46 @@
+// Where accounts stand in a table.
+ghost use mathlib.Core.Path.{_≡_};
+ghost use lib.Dec.{ltb};
+ghost use lib.ListN.{getD};
+ghost use Rattle.accounts.specs.Rooms.{roomOf, free, placeOf, holds};
+ghost use Rattle.table.specs.Table.{view, withRoom};
+use crate::Table;
+use accounts::Account;
+use accounts::FREE;
+
+// The first room with that id, with 0 the first free one; 32 where none has it.
+pub fn place_of(table: Table, id: u16) -> usize
+    ensures { λ r. ⌜ (r ≡ placeOf id (view table .rooms)) × (ltb r 32 ≡ holds id (view table .rooms)) ⌝ }
+{
+    let rooms = table.rooms;
+    let mut i = 0;
+    while i < 32 {
+        let room = rooms[i];
+        if room.id == id {
+            return i;
+        }
+        i += 1;
+    }
+    i
+}
+
+// The account in that room; a free room past the last.
+pub fn account_at(table: Table, place: usize) -> Account
+    ensures { λ r. ⌜ roomOf r ≡ getD (view table .rooms) place free ⌝ }
+{
+    if 31 < place {
+        return FREE;
+    }
+    let rooms = table.rooms;
+    rooms[place]
+}
+
+// The table with that account in that room; as it is past the last.
+pub fn put(mut table: Table, place: usize, account: Account) -> Table
+    ensures { λ r. ⌜ view r ≡ withRoom place (roomOf account) (view table) ⌝ }
+{
+    if place < 32 {
+        table.rooms[place] = account;
+    }
+    table
+}

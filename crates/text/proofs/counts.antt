@@ -1,0 +1,2 @@
+-- What the proofs of `counts`' functions share.
+pub mod CountNumbers

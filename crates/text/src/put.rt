@@ -1,0 +1,42 @@
+// What is put at the front of a lent buffer: a text, and a number in digits.
+ghost use mathlib.Core.Path.{_≡_};
+ghost use Prim.Native.Nat.{_≤_, _<_};
+ghost use lib.ListN.{length};
+ghost use Rattle.text.specs.Digits.{digitOf, digitsOf};
+ghost use Rattle.text.specs.Put.{Put};
+
+// The bytes of `t` at the front of the buffer, and how many they are.
+pub fn copy(buf: &mut [u8], t: &[u8]) -> usize
+    requires { ⌜ length (now t) ≤ length (now buf) ⌝ }
+    ensures { λ r. ⌜ Put (now (t .entry)) (now (buf .entry)) (now (buf .exit)) r ⌝ }
+{
+    let mut i = 0;
+    while i < t.len() {
+        buf[i] = t[i];
+        i += 1;
+    }
+    i
+}
+
+// The byte for a digit.
+fn digit(d: u8) -> u8
+    requires { ⌜ d < 16 ⌝ }
+    ensures { λ r. ⌜ r ≡ digitOf d ⌝ }
+{
+    if d < 10 { 48 + d } else { 87 + d }
+}
+
+// The last `k` digits of `n` in that base at the front of the buffer, and how many they are.
+pub fn spell(buf: &mut [u8], n: u64, base: u64, k: usize) -> usize
+    requires { ⌜ (k ≤ length (now buf)) × (1 < base) × (base ≤ 16) ⌝ }
+    ensures { λ r. ⌜ Put (digitsOf base k n) (now (buf .entry)) (now (buf .exit)) r ⌝ }
+{
+    let mut rest = n;
+    let mut i = k;
+    while 0 < i {
+        i -= 1;
+        buf[i] = digit((rest % base) as u8);
+        rest /= base;
+    }
+    k
+}

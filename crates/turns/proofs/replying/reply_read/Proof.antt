@@ -1,0 +1,53 @@
+-- `reply_read` meets its promise: a refusal to read is the answer, and a password is offered.
+use Prim.Native.Nat.{ℕ}
+use mathlib.Core.Path.{_≡_, sym, ap, _∙_}
+use borrow.Author.Needs.{needs}
+use Rattle.refusal.specs.declared.Reading.{Reading}
+use Rattle.reply.specs.Reading.{readingOf}
+use Rattle.accounts.specs.Rooms.{Room}
+use Rattle.accounts.specs.Accounts.{lowered}
+use Rattle.table.specs.declared.Replied.{Replied}
+use Rattle.turns.specs.TurnPart.{Seen, Said, seen, offered}
+use Rattle.turns.specs.Replied.{read, replyRead}
+use Rattle.turns.proofs.replying.Order.{read-refused}
+use Rattle.turns.proofs.replying.reply_read.Statement.{statement}
+use Rattle.turns.proofs.replying.reply_read.Tie as tie
+
+abbrev next : ℕ → Seen → ℕ → Said
+next port t password = offered port password (lowered (t .account) password) t
+
+returns : tie.Need-returns
+unfolding replyRead
+returns c =
+    let said = c .before .before .before in
+    let a = said .before .before .args in
+    let t = seen (a .turn) in
+    ap (λ (x : Replied). record { answer = x; turn = t }) (c .refusal-of .ensures)
+    ∙ read-refused t (said .read .result) _ (next (a .port) t) (c .before .enum-told .given .1)
+    ∙ ap (λ (r : Reading). read t r (next (a .port) t)) (said .read .ensures)
+
+returns-2 : tie.Need-returns-2
+unfolding replyRead
+returns-2 c =
+    let known = c .before .before .before in
+    let said = known .before .before .before in
+    let a = said .before .before .args in
+    let t = seen (a .turn) in
+    let password = known .before .reading .given .0 .0 in
+    let right : readingOf (a .text .now) ≡ Reading.Password password = sym (said .read .ensures) ∙ known .before .reading .given .1 in
+    c .offer .ensures
+    ∙ ap (λ (r : Room). offered (a .port) password r t) (c .before .lower .ensures)
+    ∙ sym (ap (λ (r : Reading). read t r (next (a .port) t)) right)
+
+pub reply-read-spec : {M : Type 1} → statement M
+reply-read-spec =
+    tie.close
+    (tie.spec
+    (λ c κs. search needs)
+    (λ c. search needs)
+    (λ c. search needs)
+    (λ c κs. search needs)
+    returns
+    (λ c κs. search needs)
+    (λ c κs. search needs)
+    returns-2)

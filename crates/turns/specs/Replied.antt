@@ -1,0 +1,40 @@
+-- Reply and Renew on what a port's turn has of the table: Laws.antt ties them to the written steps, on the whole table.
+use Prim.Native.Nat.{ℕ}
+use mathlib.Core.List.{List}
+use Rattle.refusal.specs.declared.Refusal.{Refusal}
+use Rattle.refusal.specs.declared.Checked.{Checked}
+use Rattle.refusal.specs.declared.Reading.{Reading}
+use Rattle.refusal.specs.Checks.{unless}
+use Rattle.reply.specs.Reading.{readingOf}
+use Rattle.accounts.specs.Rooms.{Room}
+use Rattle.accounts.specs.Accounts.{newRoom, lowered, valuesChecked}
+use Rattle.table.specs.declared.Replied.{Replied}
+use Rattle.turns.specs.TurnChecks.{frontChecked}
+use Rattle.turns.specs.TurnPart.{Seen, Said, refused, offered}
+
+-- The answer to a text that could not be read.
+abbrev pub unread : Reading → Replied
+unread (Reading.Password password) = Replied.Refused Refusal.ReplyUnread
+unread (Reading.Refused why) = Replied.Refused why
+
+-- What is done with the password that a text says; a refusal to read it is the answer.
+abbrev pub read : Seen → Reading → (ℕ → Said) → Said
+read t (Reading.Password password) next = next password
+read t (Reading.Refused why) next = refused t why
+
+unfoldable pub replyRead : ℕ → List ℕ → Seen → Said
+replyRead port text t = read t (readingOf text) (λ password. offered port password (lowered (t .account) password) t)
+
+unfoldable pub replied : ℕ → List ℕ → Seen → Said
+replied port text t = unless (refused t) (frontChecked port (t .line) (t .account)) (replyRead port text t)
+
+unfoldable pub renewRead : ℕ → List ℕ → Room → Seen → Said
+renewRead port text next t = read t (readingOf text) (λ password. offered port password next t)
+
+abbrev pub renewChecked : ℕ → Checked → Seen → Checked
+renewChecked port values t = unless Checked.Refused (frontChecked port (t .line) (t .account)) values
+
+unfoldable pub renewed : ℕ → ℕ → List ℕ → List ℕ → List ℕ → Seen → Said
+renewed port count seed new text t =
+    unless (refused t) (renewChecked port (valuesChecked count seed (t .account)) t)
+    (renewRead port text (newRoom (t .account .id) count seed new) t)

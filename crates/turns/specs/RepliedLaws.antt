@@ -1,0 +1,53 @@
+-- Reply and Renew on a turn, put back, are the written steps.
+use Prim.Native.Nat.{ℕ}
+use mathlib.Core.Path.{_≡_, ap, _∙_}
+use mathlib.Core.List.{List}
+use Rattle.refusal.specs.declared.Checked.{Checked}
+use Rattle.refusal.specs.declared.Reading.{Reading}
+use Rattle.refusal.specs.Checks.{unless}
+use Rattle.reply.specs.Reading.{readingOf}
+use Rattle.accounts.specs.Accounts.{newRoom, lowered, valuesChecked}
+use Rattle.table.specs.declared.Replied.{Replied}
+use Rattle.table.specs.Table.{State, accountOf, turnId}
+use Rattle.table.specs.Steps as steps
+use Rattle.table.specs.Steps.{After}
+use Rattle.turns.specs.TurnChecks.{frontChecked}
+use Rattle.turns.specs.TurnCheckLaws.{front-checked}
+use Rattle.turns.specs.TurnPart.{Said, seenBy, after, refused, offered}
+use Rattle.turns.specs.TurnPartLaws.{after-refused, after-offered}
+use Rattle.turns.specs.Replied.{read, replyRead, replied, renewRead, renewChecked, renewed}
+
+module _ (port : ℕ) (s : State) where
+  -- A check, and what is done behind it.
+  after-unless : (k : Checked) (o : Said) (a : After Replied) → after port s o ≡ a
+      → after port s (unless (refused (seenBy port s)) k o) ≡ unless (steps.replyRefused s) k a
+  after-unless Checked.Good o a e = e
+  after-unless (Checked.Refused why) o a e = after-refused port s why
+
+  -- A text, and what is done with what it says.
+  after-read : (r : Reading) (o : ℕ → Said) (a : ℕ → After Replied) → ((password : ℕ) → after port s (o password) ≡ a password)
+      → after port s (read (seenBy port s) r o) ≡ steps.read s r a
+  after-read (Reading.Password password) o a e = e password
+  after-read (Reading.Refused why) o a e = after-refused port s why
+
+  pub after-reply : (text : List ℕ) → after port s (replied port text (seenBy port s)) ≡ steps.reply port text s
+  unfolding replied replyRead steps.reply steps.replyRead
+  after-reply text =
+      let account = accountOf (turnId s) s in
+      let said = after-read (readingOf text) (λ password. offered port password (lowered account password) (seenBy port s))
+      (λ password. steps.offered port password (lowered account password) s) (λ password. after-offered port s password (lowered account password)) in
+      after-unless (frontChecked port (s .line) account) (replyRead port text (seenBy port s)) (steps.replyRead port text s) said
+      ∙ ap (λ (k : Checked). unless (steps.replyRefused s) k (steps.replyRead port text s)) (front-checked port s)
+
+  pub after-renew : (count : ℕ) (seed new text : List ℕ) → after port s (renewed port count seed new text (seenBy port s))
+      ≡ steps.renew port count seed new text s
+  unfolding renewed renewRead steps.renew steps.renewRead steps.renewChecked valuesChecked
+  after-renew count seed new text =
+      let account = accountOf (turnId s) s in
+      let next = newRoom (account .id) count seed new in
+      let said = after-read (readingOf text) (λ password. offered port password next (seenBy port s))
+      (λ password. steps.offered port password next s) (λ password. after-offered port s password next) in
+      after-unless (renewChecked port (valuesChecked count seed account) (seenBy port s))
+      (renewRead port text next (seenBy port s)) (steps.renewRead port count seed new text s) said
+      ∙ ap (λ (k : Checked). unless (steps.replyRefused s) (unless Checked.Refused k (valuesChecked count seed account))
+      (steps.renewRead port count seed new text s)) (front-checked port s)

@@ -1,3 +1,0 @@
--- Lemmas that the proofs of this crate share.
-pub mod Letters
-pub mod Scanned
