@@ -97,11 +97,12 @@ def asking():
 
 
 def public():
-    """The functions of the libraries that another crate can name."""
+    """The functions of the libraries that another crate can name: by modules that are public, or handed on at the crate's root."""
     for name, head in functions():
-        crate, *inside, _ = name.split("::")
+        crate, *inside, function = name.split("::")
         root = (CRATES / crate / "src" / "lib.rt").read_text()
-        if head.startswith("pub ") and all(f"pub mod {part};" in root for part in inside):
+        handed_on = f"pub use {'::'.join(['crate', *inside, function])};" in root
+        if head.startswith("pub ") and (handed_on or all(f"pub mod {part};" in root for part in inside)):
             yield name
 
 

@@ -1,7 +1,7 @@
 // The passwords of a card, by one walk up the chain.
 ghost use Prim.Native.Nat.{_≤_};
 ghost use Rattle.cards.specs.Inside.{Falling};
-use generator::step;
+use generator::chain::step;
 
 // k passwords in falling count, as a card prints them: the last is p, and the chain fills the places before it.
 pub fn walk(p: u64, k: u32) -> [u64; 99]

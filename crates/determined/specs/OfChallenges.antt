@@ -7,8 +7,6 @@ use Rattle.text.proofs.counts.put_count_and.Reads as put-count-and
 use Rattle.challenge.proofs.reading.read.Reads as read
 use Rattle.challenge.proofs.reading.seed_of.Reads as seed-of
 use Rattle.challenge.proofs.writing.write.Reads as write
-use Rattle.cards.proofs.card_lines.write_lines.Reads as write-lines
-use Rattle.cards.proofs.card_checks.count_asked.Reads as count-asked
 use Rattle.cards.proofs.write_card.Reads as write-card
 use Rattle.cards.proofs.printed.answer.Reads as answer
 use Rattle.determined.specs.Determined.{Answers, AnswersSeen, AnswersAndLent, both, left}
@@ -37,12 +35,6 @@ seed-of-start-determined k a y z e f p q = p .2 ∙ sym (q .2)
 
 pub write-determined : AnswersAndLent write.Learnt (λ k e. now (e .1 .1 .0))
 write-determined k a y z e f p q = left _ _ p q
-
-pub write-lines-determined : AnswersAndLent write-lines.Learnt (λ k e. now (e .1 .1 .1 .0))
-write-lines-determined k a y z e f p q = left _ _ p q
-
-pub count-asked-determined : Answers count-asked.Learnt
-count-asked-determined k a y z e f p q = p ∙ sym q
 
 pub write-card-determined : AnswersAndLent write-card.Learnt (λ k e. now (e .1 .1 .1 .0))
 write-card-determined k a y z e f p q = left _ _ p q

@@ -11,9 +11,6 @@ use Rattle.panel.proofs.lift_write_challenge.Reads as lift-write-challenge
 use Rattle.panel.proofs.lift_write_card.Reads as lift-write-card
 use Rattle.panel.proofs.lift_password_of.Reads as lift-password-of
 use Rattle.panel.proofs.lift_bytes_of.Reads as lift-bytes-of
-use Rattle.panel.proofs.structs.reading_row.Reads as reading-row
-use Rattle.panel.proofs.structs.written_row.Reads as written-row
-use Rattle.panel.proofs.structs.challenge_row.Reads as challenge-row
 use Rattle.determined.specs.Determined.{Answers, AnswersAndLent, Lent, both}
 
 pub lift-md5-determined : AnswersAndLent lift-md5.Learnt (λ k e. now (e .1 .0))
@@ -45,12 +42,3 @@ lift-password-of-determined k a y z e f p q = p ∙ sym q
 
 pub lift-bytes-of-determined : Lent lift-bytes-of.Learnt (λ k e. now (e .1 .0))
 lift-bytes-of-determined k a y z e f p q = p ∙ sym q
-
-pub reading-row-determined : Answers reading-row.Learnt
-reading-row-determined k a y z e f p q = p ∙ sym q
-
-pub written-row-determined : Answers written-row.Learnt
-written-row-determined k a y z e f p q = p ∙ sym q
-
-pub challenge-row-determined : Answers challenge-row.Learnt
-challenge-row-determined k a y z e f p q = p ∙ sym q

@@ -3,15 +3,13 @@ use mathlib.Core.Path.{sym, _∙_}
 use denote.Ref.{now}
 use Rattle.block.proofs.count.Reads as count
 use Rattle.block.proofs.block.Reads as block
-use Rattle.md5.proofs.rounds.mixed.Reads as mixed
 use Rattle.md5.proofs.compress.compress_eight.Reads as compress-eight
 use Rattle.md5.proofs.compress.registers.Reads as registers
 use Rattle.md5.proofs.digest.digest.Reads as digest
 use Rattle.password.proofs.inputs.check_phrase.Reads as check-phrase
 use Rattle.password.proofs.inputs.check_seed.Reads as check-seed
 use Rattle.password.proofs.inputs.put_lower.Reads as put-lower
-use Rattle.generator.proofs.hashing.hash.Reads as hash
-use Rattle.generator.proofs.hashing.step.Reads as step
+use Rattle.generator.proofs.chain.step.Reads as step
 use Rattle.generator.proofs.generate.Reads as generate
 use Rattle.password.proofs.eight_bytes.number_of.Reads as number-of
 use Rattle.password.proofs.eight_bytes.bytes_of.Reads as bytes-of
@@ -22,9 +20,6 @@ count-determined k a y z e f p q = p ∙ sym q
 
 pub block-determined : Answers block.Learnt
 block-determined k a y z e f p q = p ∙ sym q
-
-pub mixed-determined : Answers mixed.Learnt
-mixed-determined k a y z e f p q = p ∙ sym q
 
 pub compress-eight-determined : Answers compress-eight.Learnt
 compress-eight-determined k a y z e f p q = p ∙ sym q
@@ -43,9 +38,6 @@ check-seed-determined k a y z e f p q = p ∙ sym q
 
 pub put-lower-determined : AnswersAndLent put-lower.Learnt (λ k e. now (e .0))
 put-lower-determined k a y z e f p q = both p q
-
-pub hash-determined : Answers hash.Learnt
-hash-determined k a y z e f p q = p ∙ sym q
 
 pub step-determined : Answers step.Learnt
 step-determined k a y z e f p q = p ∙ sym q

@@ -8,7 +8,6 @@ use Rattle.line.proofs.join.Reads as line-join
 use Rattle.line.proofs.departing.leave.Reads as line-leave
 use Rattle.line.proofs.departing.remove.Reads as line-remove
 use Rattle.line.proofs.departing.tick.Reads as line-tick
-use Rattle.line.proofs.count.Reads as count
 use Rattle.line.proofs.has.Reads as has
 use Rattle.line.proofs.front_of.Reads as front-of
 use Rattle.port.proofs.after_wrong.Reads as after-wrong
@@ -21,8 +20,6 @@ use Rattle.port.specs.Port.{cooled, rightly, wrongly, wrongAnswer}
 use Rattle.table.proofs.held.place_of.Reads as place-of
 use Rattle.table.proofs.held.account_at.Reads as account-at
 use Rattle.table.proofs.held.put.Reads as put
-use Rattle.accounts.proofs.seeds.seed_len.Reads as seed-len
-use Rattle.accounts.proofs.seeds.same_seed.Reads as same-seed
 use Rattle.accounts.proofs.values.propose.Reads as propose
 use Rattle.accounts.proofs.lowered.write_challenge.Reads as write-challenge
 use Rattle.accounts.proofs.lowered.lower.Reads as lower
@@ -32,11 +29,6 @@ use Rattle.login.proofs.enrolling.remove.Reads as enrolling-remove
 use Rattle.login.proofs.joining.join.Reads as joining-join
 use Rattle.login.proofs.leaving.leave.Reads as waiting-leave
 use Rattle.login.proofs.ticking.tick.Reads as waiting-tick
-use Rattle.turns.proofs.turn_checks.check_turn.Reads as check-turn
-use Rattle.turns.proofs.offering.offer.Reads as offer
-use Rattle.turns.proofs.replying.replied.Reads as replied
-use Rattle.turns.proofs.replying.renewed.Reads as renewed
-use Rattle.turns.specs.TurnPart.{outcome}
 use Rattle.turns.proofs.challenge.Reads as challenge
 use Rattle.turns.proofs.reply.Reads as reply
 use Rattle.turns.proofs.renew.Reads as renew
@@ -62,9 +54,6 @@ line-remove-determined k a y z e f p q = p ∙ sym q
 
 pub line-tick-determined : AnswersSeen line-tick.Learnt (λ k y. waiting y)
 line-tick-determined k a y z e f p q = p ∙ sym q
-
-pub count-determined : Answers count.Learnt
-count-determined k a y z e f p q = p .0 ∙ sym (q .0)
 
 pub has-determined : Answers has.Learnt
 has-determined k a y z e f p q = p ∙ sym q
@@ -106,12 +95,6 @@ account-at-determined k a y z e f p q = p ∙ sym q
 pub put-determined : AnswersSeen put.Learnt (λ k y. view y)
 put-determined k a y z e f p q = p ∙ sym q
 
-pub seed-len-determined : Answers seed-len.Learnt
-seed-len-determined k a y z e f p q = p .0 ∙ sym (q .0)
-
-pub same-seed-determined : Answers same-seed.Learnt
-same-seed-determined k a y z e f p q = p ∙ sym q
-
 pub propose-determined : AnswersSeen propose.Learnt (λ k y. proposal y)
 propose-determined k a y z e f p q = p ∙ sym q
 
@@ -120,19 +103,6 @@ write-challenge-determined k a y z e f p q = left _ _ p q
 
 pub lower-determined : AnswersSeen lower.Learnt (λ k y. roomOf y)
 lower-determined k a y z e f p q = p ∙ sym q
-
--- A turn is seen as its room, its account, the port's record and the line.
-pub check-turn-determined : Answers check-turn.Learnt
-check-turn-determined k a y z e f p q = p ∙ sym q
-
-pub offer-determined : AnswersSeen offer.Learnt (λ k y. outcome y)
-offer-determined k a y z e f p q = p ∙ sym q
-
-pub replied-determined : AnswersSeen replied.Learnt (λ k y. outcome y)
-replied-determined k a y z e f p q = p ∙ sym q
-
-pub renewed-determined : AnswersSeen renewed.Learnt (λ k y. outcome y)
-renewed-determined k a y z e f p q = p ∙ sym q
 
 -- A table is seen by its view, beside the answer.
 pub controller-fresh-determined : AnswersSeen controller-fresh.Learnt (λ k y. view y)

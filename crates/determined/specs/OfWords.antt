@@ -1,35 +1,21 @@
 -- The promises of `rows`, `heads`, `lookup`, `sixwords`, `hex`, `spelling`, `typed_words`, `known_words` and `reply` determine their results.
 use mathlib.Core.Path.{sym, _∙_}
 use denote.Ref.{now}
-use Rattle.wordlist.proofs.rows.row.Reads as row
-use Rattle.wordlist.proofs.heads.head.Reads as head
 use Rattle.wordlist.proofs.word_at.Reads as word-at
 use Rattle.wordlist.proofs.place_of.Reads as place-of
-use Rattle.sixwords.proofs.places_of.Reads as places-of
 use Rattle.sixwords.proofs.number_of.Reads as number-of
 use Rattle.hex.proofs.read_hex.Reads as read-hex
 use Rattle.hex.proofs.write_hex.Reads as write-hex
 use Rattle.sixwords.proofs.spelling.words_length.Reads as words-length
 use Rattle.sixwords.proofs.spelling.write_words.Reads as write-words
-use Rattle.reply_reader.proofs.typed_words.six_words.Reads as six-words
-use Rattle.reply_reader.proofs.known_words.read_words.Reads as read-words
 use Rattle.reply_reader.proofs.read.Reads as read
 use Rattle.determined.specs.Determined.{Answers, AnswersAndLent, left}
-
-pub row-determined : Answers row.Learnt
-row-determined k a y z e f p q = p ∙ sym q
-
-pub head-determined : Answers head.Learnt
-head-determined k a y z e f p q = p ∙ sym q
 
 pub word-at-determined : Answers word-at.Learnt
 word-at-determined k a y z e f p q = p ∙ sym q
 
 pub place-of-determined : Answers place-of.Learnt
 place-of-determined k a y z e f p q = p ∙ sym q
-
-pub places-of-determined : Answers places-of.Learnt
-places-of-determined k a y z e f p q = p ∙ sym q
 
 pub number-of-determined : Answers number-of.Learnt
 number-of-determined k a y z e f p q = p ∙ sym q
@@ -45,12 +31,6 @@ words-length-determined k a y z e f p q = p .0 ∙ sym (q .0)
 
 pub write-words-determined : AnswersAndLent write-words.Learnt (λ k e. now (e .1 .0))
 write-words-determined k a y z e f p q = left _ _ p q
-
-pub six-words-determined : Answers six-words.Learnt
-six-words-determined k a y z e f p q = p ∙ sym q
-
-pub read-words-determined : Answers read-words.Learnt
-read-words-determined k a y z e f p q = p ∙ sym q
 
 pub read-determined : Answers read.Learnt
 read-determined k a y z e f p q = p ∙ sym q

@@ -7,17 +7,27 @@ ghost use Rattle.text.specs.Kinds.{lowerOf};
 ghost use Rattle.text.specs.Put.{Put};
 ghost use Rattle.password.specs.Password as spec;
 ghost use Rattle.generator.specs.Inside.{chained};
-use crate::hashing::hash;
+use crate::chain::step;
+use crate::fold::folded;
+use md5::compress::registers;
 use password::inputs::check_phrase;
 use password::inputs::check_seed;
 use refusal::Checked;
 use refusal::Reading;
 use refusal::Refusal;
 
-// The folded hash of a message, and of a password: one step of the chain.
-mod hashing;
+// The fold of a digest.
+mod fold;
+// One step of the chain.
+pub mod chain;
 
-pub use crate::hashing::step;
+// The folded hash of a message.
+fn hash(m: &[u8]) -> u64
+    requires { ⌜ length (now m) ≤ 4096 ⌝ }
+    ensures { λ r. ⌜ r ≡ spec.hash spec.md5 (now (m .entry)) ⌝ }
+{
+    folded(registers(m))
+}
 
 // What is hashed at count 0: the seed in lower case, followed by the pass-phrase.
 fn put_message(buf: &mut [u8], phrase: &[u8], seed: &[u8]) -> usize
@@ -39,7 +49,7 @@ fn first(phrase: &[u8], seed: &[u8]) -> u64
 }
 
 // The password n counts up from p.
-fn chain(p: u64, n: u32) -> u64
+fn steps(p: u64, n: u32) -> u64
     ensures { λ r. ⌜ r ≡ chained n p ⌝ }
 {
     let mut x = p;
@@ -64,5 +74,5 @@ pub fn generate(phrase: &[u8], seed: &[u8], count: u32) -> Reading
     if 9999 < count {
         return Reading::Refused(Refusal::CountHigh);
     }
-    Reading::Password(chain(first(phrase, seed), count))
+    Reading::Password(steps(first(phrase, seed), count))
 }

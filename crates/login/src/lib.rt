@@ -2,13 +2,13 @@
 // back beside the answer.
 
 // Enrol and Remove.
-mod enrolling;
+pub mod enrolling;
 // Join.
-mod joining;
+pub mod joining;
 // Leave.
-mod leaving;
+pub mod leaving;
 // Tick.
-mod ticking;
+pub mod ticking;
 
 pub use crate::enrolling::enrol;
 pub use crate::enrolling::remove;

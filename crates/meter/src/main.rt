@@ -1,6 +1,6 @@
 // Repeats one call of the login table, for the benchmark: the call's letter, 0, 1 or 3 for 0, 1 or 32 accounts, and how many thousand times.
+use generator::chain::step;
 use generator::generate;
-use generator::step;
 use libc::STDIN_FILENO;
 use libc::STDOUT_FILENO;
 use password::eight_bytes::bytes_of;

@@ -48,7 +48,7 @@ fn answer_call(line: &mut [u8], call: usize, table: Table) -> Table
         text_calls::answer(call, line, given);
         return table;
     }
-    reached::answer(call, line, given, table)
+    table_calls::answer(call, line, given, table)
 }
 
 // Answers a line, if it is not passed over, and hands back the table after it.

@@ -4,7 +4,7 @@ ghost use Rattle.accounts.specs.Rooms.{roomOf};
 ghost use Rattle.turns.specs.TurnPart as spec;
 ghost use Rattle.turns.specs.TurnPart.{seen, outcome};
 use accounts::Account;
-use generator::step;
+use generator::chain::step;
 use line::Line;
 use port::Port;
 use port::after_right;

@@ -33,7 +33,7 @@ returns-3 c = sym (refused-count Algorithm.md5 _ _ _ (phrase-good (c .before .be
 returns-4 : tie.Need-returns-4
 returns-4 c =
     let told = c .before .before .before in
-    ap Reading.Password (c .chain .ensures ∙ ap (chained _) (c .before .first .ensures) ∙ chained-password _ _ _)
+    ap Reading.Password (c .steps .ensures ∙ ap (chained _) (c .before .first .ensures) ∙ chained-password _ _ _)
     ∙ sym (generated-good Algorithm.md5 _ _ _ (phrase-good (told .before .before .before)) (seed-good told) (c .before .before .if1 .left))
 
 first-requires : tie.Need-first-requires

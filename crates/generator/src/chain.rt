@@ -1,23 +1,10 @@
-// The folded hash of a message, and of a password: one step of the chain.
+// One step of the chain.
 ghost use mathlib.Core.Path.{_≡_};
-ghost use Prim.Native.Nat.{_≤_, _<_};
-ghost use lib.ListN.{length};
+ghost use Prim.Native.Nat.{_<_};
 ghost use Rattle.digests.specs.Padding.{word, little};
 ghost use Rattle.password.specs.Password as spec;
-use crate::hashing::fold::folded;
+use crate::fold::folded;
 use md5::compress::compress_eight;
-use md5::compress::registers;
-
-// The fold of a digest.
-mod fold;
-
-// The folded hash of a message.
-pub fn hash(m: &[u8]) -> u64
-    requires { ⌜ length (now m) ≤ 4096 ⌝ }
-    ensures { λ r. ⌜ r ≡ spec.hash spec.md5 (now (m .entry)) ⌝ }
-{
-    folded(registers(m))
-}
 
 // Four bytes as a word of the block, low-order byte first.
 fn low_word(b0: u64, b1: u64, b2: u64, b3: u64) -> u32

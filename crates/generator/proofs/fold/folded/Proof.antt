@@ -2,9 +2,9 @@
 use mathlib.Core.Path.{sym, ap₂, _∙_}
 use Prim.Native.Nat.{ℕ, _+_, _*_}
 use borrow.Author.Needs.{needs}
-use Rattle.generator.proofs.hashing.Folded.{fold-registers}
-use Rattle.generator.proofs.hashing.fold.folded.Statement.{statement}
-use Rattle.generator.proofs.hashing.fold.folded.Tie as tie
+use Rattle.generator.proofs.Folded.{fold-registers}
+use Rattle.generator.proofs.fold.folded.Statement.{statement}
+use Rattle.generator.proofs.fold.folded.Tie as tie
 
 pub folded-spec : {M : Type 1} → statement M
 folded-spec =

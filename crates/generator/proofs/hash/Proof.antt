@@ -3,9 +3,9 @@ use mathlib.Core.Path.{ap, _∙_}
 use borrow.Author.Needs.{needs}
 use Rattle.digests.specs.Md5.{md5}
 use Rattle.password.specs.Password.{hash}
-use Rattle.generator.proofs.hashing.Folded.{foldedOf}
-use Rattle.generator.proofs.hashing.hash.Statement.{statement}
-use Rattle.generator.proofs.hashing.hash.Tie as tie
+use Rattle.generator.proofs.Folded.{foldedOf}
+use Rattle.generator.proofs.hash.Statement.{statement}
+use Rattle.generator.proofs.hash.Tie as tie
 
 returns : tie.Need-returns
 unfolding hash md5

@@ -7,9 +7,9 @@ use native.Mathlib.Omega.{arith}
 use Rattle.digests.specs.Md5.{md5, bytes4, registers}
 use Rattle.md5.specs.Laws.{bytes4-word}
 use Rattle.password.specs.Password.{hash}
-use Rattle.generator.proofs.hashing.Folded.{foldedOf}
-use Rattle.generator.proofs.hashing.step.Statement.{statement}
-use Rattle.generator.proofs.hashing.step.Tie as tie
+use Rattle.generator.proofs.Folded.{foldedOf}
+use Rattle.generator.proofs.chain.step.Statement.{statement}
+use Rattle.generator.proofs.chain.step.Tie as tie
 
 byte : (n : ℕ) → n % 256 < 256
 byte n = omega arith

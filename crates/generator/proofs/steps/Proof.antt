@@ -1,4 +1,4 @@
--- `chain` meets its promise: x is k counts up.
+-- `steps` meets its promise: x is k counts up.
 use Prim.Native.Nat.{ℕ, _-_, _≤_}
 use mathlib.Core.Path.{_≡_, refl, ap, _∙_}
 use borrow.Author.Needs.{needs}
@@ -6,8 +6,8 @@ use native.Mathlib.Numerals.{add-one}
 use native.Mathlib.Omega.{arith}
 use Rattle.password.specs.Password.{Algorithm, hash, bytesOf}
 use Rattle.generator.specs.Inside.{chained}
-use Rattle.generator.proofs.chain.Statement.{statement}
-use Rattle.generator.proofs.chain.Tie as tie
+use Rattle.generator.proofs.steps.Statement.{statement}
+use Rattle.generator.proofs.steps.Tie as tie
 
 abbrev Inv-loop : tie.InvT-loop
 Inv-loop p n x₀ k₀ x k = (k ≤ n) × (x ≡ chained k p)
@@ -31,8 +31,8 @@ returns c =
     let all : c .before .loop .k ≡ c .before .before .args .n = omega arith in
     c .before .loop .inv .1 ∙ ap (λ (k : ℕ). chained k (c .before .before .args .p)) all
 
-pub chain-spec : {M : Type 1} → statement M
-chain-spec =
+pub steps-spec : {M : Type 1} → statement M
+steps-spec =
     tie.close
     (tie.spec
     Inv-loop

@@ -1,2 +1,0 @@
--- What the proofs of `chain`'s functions share.
-pub mod Folded
