@@ -1,8 +1,9 @@
--- New values beside a free room: 63 is never given.
-use Prim.Native.Nat.{ℕ}
+-- Laws of rooms and of new values.
+use Prim.Native.Nat.{ℕ, zero, suc, _≤_}
 use mathlib.Core.Path.{_≡_, refl, ap}
 use mathlib.Core.List.{List, [], _∷_}
 use native.Mathlib.Omega.{arith}
+use lib.ListN.{length, set}
 use Rattle.text.specs.Tests.{same}
 use Rattle.refusal.specs.declared.Checked.{Checked}
 use Rattle.refusal.specs.Checks.{unless}
@@ -11,7 +12,7 @@ use Rattle.password.specs.PhraseAndSeedLaws.{good-seed}
 use Rattle.accounts.specs.Rooms.{free}
 use Rattle.accounts.specs.Accounts.{inOrder, countWithin, seedOther, valuesChecked}
 
--- A good seed isn't empty.
+-- New values beside a free room, 63 is never given: a good seed isn't empty.
 other : (seed : List ℕ) → seedChecked seed ≡ Checked.Good → seedOther seed free ≡ Checked.Good
 unfolding same
 other [] e = let some = good-seed [] e .0 in absurd (omega arith)
@@ -26,3 +27,9 @@ values-enrolled count seed =
     by : (a b : Checked) → (a ≡ Checked.Good → b ≡ Checked.Good) → inOrder (a ∷ b ∷ []) ≡ inOrder (a ∷ [])
     by Checked.Good b f = ap (λ (k : Checked). unless Checked.Refused k Checked.Good) (f refl)
     by (Checked.Refused why) b f = refl
+
+-- Past the end nothing is set.
+pub set-past : {A : Type 0} (l : List A) (i : ℕ) (a : A) → length l ≤ i → set l i a ≡ l
+set-past [] i a h = refl
+set-past (x ∷ l) zero a h = absurd (omega arith)
+set-past (x ∷ l) (suc i) a h = ap (λ (t : List _). x ∷ t) (set-past l i a (omega arith))

@@ -1,5 +1,5 @@
 -- What becomes of an account: what the promises of `accounts` cite, and a law for Enrol.
 pub mod Accounts
 pub mod Laws
-pub mod RoomLaws
+pub mod Examples
 pub mod Rooms

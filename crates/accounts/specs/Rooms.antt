@@ -3,7 +3,7 @@ use Prim.Native.Nat.{ℕ, suc}
 use mathlib.Core.Bool.{Bool, cond}
 use mathlib.Core.List.{List, [], _∷_}
 use lib.Dec.{eqb, ltb}
-use lib.ListN.{length, getD, take, set}
+use lib.ListN.{length, getD, take}
 use Rattle.accounts.specs.declared.Account.{Account}
 
 -- "An account has a seed, a stored count and a stored password", and it stands in a room. A free room has the id 0.
@@ -32,7 +32,3 @@ holds id rooms = ltb (placeOf id rooms) (length rooms)
 -- The account with that id.
 abbrev pub roomBy : ℕ → List Room → Room
 roomBy id rooms = getD rooms (placeOf id rooms) free
-
--- The rooms with another account in the first one with that id: with 0, in the first free one.
-abbrev pub roomsWith : ℕ → Room → List Room → List Room
-roomsWith id room rooms = set rooms (placeOf id rooms) room

@@ -1,10 +1,10 @@
 -- The six words of a password: words of the dictionary, read back by their places.
-use Prim.Native.Nat.{ℕ, suc, _/_, _%_, _<_}
+use Prim.Native.Nat.{ℕ, suc, _<_}
 use native.Mathlib.Omega.{arith}
 use mathlib.Core.Path.{_≡_, refl, sym, _∙_, ap, ap₂}
-use mathlib.Core.Bool.{Bool, true, false, cond, _&&_}
+use mathlib.Core.Bool.{Bool, true, _&&_}
 use mathlib.Core.List.{List, [], _∷_, _++_, map, append-nil}
-use lib.Dec.{eqb, ltb}
+use lib.Dec.{ltb}
 use lib.ListN.{length, getD, length-map, List·getD-map}
 use lib.Seq.{ext-getD, append-snoc}
 use borrow.Author.Tests.{le-leb, ltb-true}
@@ -18,19 +18,10 @@ use Rattle.dictionary.specs.declared.Found.{Found}
 use Rattle.dictionary.specs.Dictionary.{wordAt, placeOf}
 use Rattle.dictionary.specs.Laws.{word-upper, word-spelt, found-word}
 use Rattle.sixwords.specs.declared.Number.{Number}
-use Rattle.sixwords.specs.Places.{pairSum, joined, allPlaces, numberOf}
+use Rattle.sixwords.specs.Places.{allPlaces, numberOf}
 use Rattle.sixwords.specs.Spelling.{spacedFrom}
 use Rattle.reply.specs.Reading.{isWord, upperText, summed, foundAfter}
 use Rattle.reply.specs.Laws.{spelt-token}
-
--- an accepted number's places are places of the dictionary
-pub number-all : (s : List ℕ) (p : ℕ) → numberOf s ≡ Number.Is p → allPlaces s ≡ true
-unfolding numberOf
-number-all s p e = go (allPlaces s) (eqb (pairSum (joined 0 s / 4) % 4) (joined 0 s % 4)) (joined 0 s / 4) e
-  where
-    go : (a b : Bool) (x : ℕ) → cond (a && b) (Number.Is x) Number.SumWrong ≡ Number.Is p → a ≡ true
-    go true b x e = refl
-    go false b x e = let z : _≡_ {A = ℕ} 0 1 = cc in absurd (omega arith)
 
 -- the words of the dictionary are words, solid, and in upper case
 module _ (i : ℕ) (h : i < 2048) where

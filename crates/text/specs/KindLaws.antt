@@ -4,7 +4,7 @@ use native.Mathlib.Omega.{arith}
 use mathlib.Core.Path.{_≡_, sym, _∙_, ap₂}
 use mathlib.Core.Bool.{Bool, true, false, true≢false, _||_}
 use lib.Dec.{leb}
-use borrow.Author.Tests.{le-leb, lt-leb, leb-true, leb-false, ne-eqb}
+use borrow.Author.Tests.{le-leb, lt-leb, leb-true, ne-eqb}
 use Rattle.text.specs.Kinds.{isUpper, isLower, isLetter, isSolid, upperOf}
 use Rattle.text.specs.Tests.{either, cases, both}
 
@@ -35,14 +35,3 @@ letter-upper b e =
     upper f g =
         let halves = both (leb 65 b) (leb b 90) g in
         omega (arith, leb-true 65 b (halves .0), leb-true b 90 (halves .1))
-
--- a letter is no white space
-pub letter-solid : (b : ℕ) → isLetter b ≡ true → isSolid b ≡ true
-letter-solid b e =
-    past-space-solid b
-    (cases (leb 33 b) (λ t. leb-true 33 b t)
-    (λ t.
-    let low = leb-false 33 b t in
-    let up = letter-upper b e in
-    let kept = upper-kept b (omega arith) in
-    absurd (omega arith)))

@@ -12,7 +12,7 @@ use lib.Dec.{leb}
 use borrow.Author.Tests.{le-leb, lt-leb}
 use Rattle.refusal.specs.declared.Refusal.{Refusal}
 use Rattle.refusal.specs.declared.Written.{Written}
-use Rattle.text.specs.Put.{front, Put, leaves, Writes}
+use Rattle.text.specs.Put.{front, Put, Writes}
 
 pub length-front : (t b : List ℕ) → length t ≤ length b → length (front t b) ≡ length b
 length-front t b h = simp (length-append, length-drop) (omega arith)
@@ -88,12 +88,6 @@ put-writes t b b′ n h p = (
 pub short-writes : (t b : List ℕ) → length b < length t → Writes t b b (Written.Refused Refusal.BufferShort)
 short-writes t b h =
     (sym (ap (λ (e : Bool). cond e (Written.Wrote (length t)) (Written.Refused Refusal.BufferShort)) (lt-leb (length t) (length b) h)), refl)
-
--- a writer's promise fixes its answer and what it leaves
-pub writes-determined : (t b b₁ b₂ : List ℕ) (r₁ r₂ : Written) → Writes t b b₁ r₁ → Writes t b b₂ r₂ → (r₁ ≡ r₂) × (b₁ ≡ b₂)
-writes-determined t b b₁ b₂ r₁ r₂ p q =
-    let same = p .0 ∙ sym (q .0) in
-    (same, p .1 ∙ ap (λ (r : Written). leaves r t b) same ∙ sym (q .1))
 
 -- the bytes that a writer reports are the text
 pub written-front : (t b b′ : List ℕ) (n : ℕ) → Writes t b b′ (Written.Wrote n) → take n b′ ≡ t

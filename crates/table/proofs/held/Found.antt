@@ -9,7 +9,7 @@ use lib.Dec.{eqb, ltb}
 use lib.ListN.{length, getD, drop, set, length-map, drop-of-length-le, List·getD-map, List·getD-eq-default}
 use lib.Seq.{drop-cons}
 use Rattle.accounts.specs.declared.Account.{Account}
-use Rattle.accounts.specs.RoomLaws.{set-past}
+use Rattle.accounts.specs.Laws.{set-past}
 use Rattle.accounts.specs.Rooms.{Room, free, roomOf, placeOf, holds}
 
 -- What is read past the end of the rooms.

@@ -4,7 +4,7 @@ use borrow.Author.Needs.{needs}
 use native.Mathlib.Omega.{arith}
 use lib.ListN.{length}
 use Rattle.line.specs.Laws.{unmapped}
-use Rattle.accounts.specs.RoomLaws.{set-past}
+use Rattle.accounts.specs.Laws.{set-past}
 use Rattle.turns.proofs.put_own.Statement.{statement}
 use Rattle.turns.proofs.put_own.Tie as tie
 
