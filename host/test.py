@@ -11,12 +11,14 @@ import time
 sys.dont_write_bytecode = True
 
 import harness  # noqa: E402
-from sections import cards, challenges, commands, docs, paper, passwords, promises, refused, replay, replies, selftest  # noqa: E402
+from sections import cards, challenges, commands, docs, house, paper, passwords  # noqa: E402
+from sections import promises, refused, replay, replies, selftest  # noqa: E402
 
 SECTIONS = [
     ("comparison can fail", selftest.comparison_can_fail),
     ("reading of refusals can fail", selftest.refusals_can_fail),
     ("comparison of the gate's commands can fail", selftest.gate_can_fail),
+    ("checks of the house can fail", selftest.house_can_fail),
     ("document 01's examples", paper.examples),
     ("recorded scripts", paper.scripts),
     ("RFC 2289, Appendix C", passwords.appendix_c),
@@ -38,6 +40,10 @@ SECTIONS = [
     ("program replay on its inputs", replay.inputs),
     ("program replay on lines that are no call", replay.no_calls),
     ("program replay at random", replay.at_random),
+    ("uses in crates.txt", house.uses),
+    ("layers in README.md", house.layers),
+    ("one name for one thing", house.words),
+    ("imports and long lines", house.layout),
     ("what docs/PROMISES.md names", promises.page),
     ("the must-fail edits' logs", refused.page),
     ("figures in README.md", docs.figures),

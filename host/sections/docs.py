@@ -67,7 +67,7 @@ def gate_figures():
         raise Failed("target/ has not what a whole run of the gate leaves")
     return {"crates": len(verdicts), "functions": sum(int(found[1]) for found in verdicts),
             "axioms": max(int(found[2] or 0) for found in verdicts), "edits": len(edits),
-            "wrong": refused.counted()[1]}
+            "wrong": sum(refused.counted()[1].values())}
 
 
 def figures(driver):

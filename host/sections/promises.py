@@ -5,7 +5,7 @@ from harness import ROOT, Failed
 
 CRATES = ROOT / "crates"
 PAGE = ROOT / "docs" / "PROMISES.md"
-DETERMINED = CRATES / "demands" / "specs" / "Determined"
+DETERMINED = CRATES / "determined" / "specs"
 # Functions on a lent record, proved by hand: the theorems cite their promises by the definitions.
 BY_HAND = {"port::tick", "port::right", "port::wrong"}
 

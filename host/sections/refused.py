@@ -54,7 +54,7 @@ def log_of(crate, edit):
 
 
 def refused_alone(crate, edit, said, changes):
-    """The functions that an edit makes wrong. Each has to be refused, and not for what it calls."""
+    """The functions that an edit makes wrong in their own text. Each has to be refused, and not for what it calls."""
     wrong = changed(crate, changes)
     for path in wrong:
         verdict = re.search(rf"^fn {path}: not proved(.*)", said, re.M)
@@ -62,26 +62,24 @@ def refused_alone(crate, edit, said, changes):
             raise Failed(f"{crate}/{edit}: {path} is not refused by itself")
     if SHAPE.search(said):
         raise Failed(f"{crate}/{edit}: refused for {SHAPE.search(said)[0]!r}, which is no fact")
-    return len(wrong)
+    return wrong
 
 
 def counted():
-    """How many edits there are, how many functions they make wrong, and with how many each function is not proved."""
-    count, wrong, seen = 0, 0, collections.Counter()
+    """How many edits there are, and in how many of them each function is made wrong."""
+    count, seen = 0, collections.Counter()
     for crate, edit, changes in edits():
-        said = log_of(crate, edit)
-        wrong += refused_alone(crate, edit, said, changes)
-        seen.update(re.findall(r"^fn ([\w:]+): not proved", said, re.M))
+        seen.update(refused_alone(crate, edit, log_of(crate, edit), changes))
         count += 1
-    return count, wrong, seen
+    return count, seen
 
 
 def page(driver):
-    """Every edit is refused as it should be, and every public function in two edits or more."""
-    count, wrong, seen = counted()
+    """Every edit is refused as it should be, and every public function is wrong by itself in two edits or more."""
+    count, seen = counted()
     names = set(public())
     few = sorted(name for name in names if seen[name] < LEAST)
     if few:
-        raise Failed(f"refused in fewer than {LEAST} edits: {', '.join(few)}")
-    return (f"{count} edits; {wrong} functions made wrong by them, each refused by itself, and none for a name or the "
-            f"shape of a proof; {len(names)} public functions, each refused in {LEAST} edits or more")
+        raise Failed(f"wrong by itself in fewer than {LEAST} edits: {', '.join(few)}")
+    return (f"{count} edits; {sum(seen.values())} wrong functions in them, each refused by itself, and none for a name or the "
+            f"shape of a proof; {len(names)} public functions, each wrong in {LEAST} edits or more")

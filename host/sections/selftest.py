@@ -1,7 +1,10 @@
 """That the comparison can fail: tests of the tests."""
+import pathlib
+
 import harness
+import tidy
 from harness import Failed, call
-from sections import commands, refused
+from sections import commands, house, refused
 
 
 def fails(check, *given):
@@ -33,15 +36,15 @@ def comparison_can_fail(driver):
 
 def refusals_can_fail(driver):
     """A wrong function that is let pass, or is refused for what it calls or for a proof's shape, is found."""
-    alone = "fn lookup::word_at: not proved\n"
+    alone = "fn wordlist::word_at: not proved\n"
     said = [
-        "fn lookup::word_at: proved\n",
-        "fn lookup::place_of: not proved\n",
-        "fn lookup::word_at: not proved; it calls `rows::row`, which is not proved\n",
+        "fn wordlist::word_at: proved\n",
+        "fn wordlist::place_of: not proved\n",
+        "fn wordlist::word_at: not proved; it calls `wordlist::rows::row`, which is not proved\n",
         alone + "Proof.antt:13:23: error: `returns`: record `After-row` has no field `args`\n",
     ]
     change = ("src/lib.rt", "words[place % 16]", "words[0]")
-    held = [lambda log=log: refused.refused_alone("lookup", "an edit", log, [change]) for log in [alone, *said]]
+    held = [lambda log=log: refused.refused_alone("wordlist", "an edit", log, [change]) for log in [alone, *said]]
     found = [not fails(held[0]), *(fails(check) for check in held[1:])]
     if not all(found):
         raise Failed(f"of the five, as they should be: {found}")
@@ -60,3 +63,20 @@ def gate_can_fail(driver):
     if not all(found):
         raise Failed(f"of the four, as they should be: {found}")
     return f"{len(found)} pairs of commands: a flag in one of them is reported, and nothing else"
+
+
+def house_can_fail(driver):
+    """A use that runs upwards or to the left, a crate that is drawn twice or not at all, an import that nothing uses, are found."""
+    crates = {"card": ["cards", "io"], "cards": ["text"], "text": []}
+    right = "What stands higher uses what stands below it:\n\n    card   a program\n    cards  text   the rest\n\n"
+    wrong = [right.replace("cards  text", "text  cards"), right.replace("    card ", "    text  card "),
+             right.replace("cards  text", "cards")]
+    held = [lambda drawing=drawing: house.true_of(house.drawn(drawing), crates) for drawing in [right, *wrong]]
+    page = pathlib.Path("Page.antt")
+    text = "use a.B.{one, _two_}\nuse a.C as c\n\nthree : one two c.x\nthree = one\n"
+    unused = [list(tidy.unused(page, each)) for each in
+              (text, text.replace(" c.x", ""), text.replace(" two", ""), text.replace("one two", "ones two").replace("= one", "= 1"))]
+    found = [not fails(held[0]), *(fails(check) for check in held[1:]), not unused[0], *unused[1:]]
+    if not all(found):
+        raise Failed(f"of the eight, as they should be: {found}")
+    return f"{len(found)} cases: a drawing that isn't true, and an import that nothing uses, are reported, and nothing else"

@@ -1,0 +1,119 @@
+"""The house: the crates' names and layers, what each uses, and the sources' layout."""
+import collections
+import re
+
+import tidy
+from harness import ROOT, Failed
+
+CRATES = ROOT / "crates"
+KIT = {"bytes", "check", "io", "libc", "os"}
+# Kinds of file, once in each crate; every other name stands for one thing.
+KINDS = {"lib", "main", "laws", "inside", "examples"}
+
+
+def listed():
+    """crates.txt: each crate with what it stands on."""
+    rows = [line.split(":") for line in (ROOT / "crates.txt").read_text().splitlines() if line and not line.startswith("#")]
+    return {name: below.split() for name, below in rows}
+
+
+def is_program(crate):
+    return (CRATES / crate / "src" / "main.rt").exists()
+
+
+def named_in(crate):
+    """The crates that a crate's sources name."""
+    found = set()
+    for path in (CRATES / crate).glob("**/*.antt"):
+        found |= set(re.findall(r"^use Rattle·(\w+)[.·]", path.read_text(), re.M))
+    for path in (CRATES / crate / "src").glob("**/*.rt"):
+        text = tidy.without_comments(path.read_text())
+        found |= set(re.findall(r"Rattle·(\w+)[.·]", text)) | set(re.findall(r"(?<![\w:])(\w+)::", text))
+    return (found & (set(listed()) | KIT)) - {crate}
+
+
+def uses(driver):
+    """Each line of crates.txt names what the crate's sources name, and no more; a program's also the crates of a table's fields."""
+    crates = listed()
+    for crate, below in crates.items():
+        spare = set(below) - named_in(crate) - ({"accounts", "line", "port"} if is_program(crate) else set())
+        missing = named_in(crate) - set(below)
+        if spare or missing:
+            raise Failed(f"crates.txt, {crate}: not used {sorted(spare)}, not listed {sorted(missing)}")
+    return f"{len(crates)} crates, {sum(map(len, crates.values()))} uses: crates.txt has those of the sources"
+
+
+def drawn(readme):
+    """The layers of the README's drawing, from the top: in each its crates, from the left, before what is said of them."""
+    block = re.search(r"^What stands higher uses what stands below it.*?\n\n(.*?)\n\n", readme, re.M | re.S)
+    return [re.split(r" {3,}", row.strip())[0].split() for row in block[1].splitlines()] if block else []
+
+
+def places(layers):
+    """Where each crate stands in the drawing: the layer, then the place in it."""
+    found = {}
+    for down, layer in enumerate(layers):
+        for right, crate in enumerate(layer):
+            if crate in found:
+                raise Failed(f"drawn twice: {crate}")
+            found[crate] = (down, right)
+    return found
+
+
+def true_of(layers, crates):
+    """Every crate is drawn once, and uses only what is drawn below it or to its right in its own layer."""
+    where = places(layers)
+    if set(where) != set(crates):
+        raise Failed(f"drawn or listed, not both: {', '.join(sorted(set(where) ^ set(crates)))}")
+    for crate, below in crates.items():
+        for used in below:
+            if used in where and where[used] <= where[crate]:
+                raise Failed(f"{crate} uses {used}, which is drawn above it or to its left")
+    return len(layers)
+
+
+def layers(driver):
+    """The README's drawing is true of crates.txt."""
+    crates = listed()
+    count = true_of(drawn((ROOT / "README.md").read_text()), crates)
+    return f"{len(crates)} crates in {count} layers: no use runs upwards"
+
+
+def names(crate):
+    """The names that a crate brings: its own, its modules', its definitions' and its shared proofs', by their kind."""
+    folder = CRATES / crate
+    yield "crate", crate
+    for kind, pattern in (("module", "src/**/*.rt"), ("definitions", "specs/**/*.antt"), ("proofs", "proofs/**/*.antt")):
+        modules = {path.stem for path in folder.glob("src/**/*.rt")}
+        for path in folder.glob(pattern):
+            if path.name != "Proof.antt" and not (kind == "proofs" and path.stem in modules):
+                yield kind, path.stem.lower()
+
+
+def one_thing(crates):
+    """A name for two things: in two crates, or twice for one kind in a crate."""
+    homes = collections.defaultdict(set)
+    for crate in crates:
+        seen = collections.Counter(names(crate))
+        for (kind, name), count in seen.items():
+            if name not in KINDS:
+                homes[name].add(crate)
+            if count > 1 and not (kind == "proofs" and name == "lib"):
+                raise Failed(f"{crate}: {count} files for {kind} are called {name}")
+    for name, found in sorted(homes.items()):
+        if len(found) > 1:
+            raise Failed(f"one name for several things: {name} in {', '.join(sorted(found))}")
+    return len(homes)
+
+
+def words(driver):
+    """No two crates, modules or files have one name for two things."""
+    return f"{one_thing(listed())} names of crates, modules and files, each in one crate"
+
+
+def layout(driver):
+    """No import that its file doesn't use, no line over 160 characters."""
+    found = list(tidy.faults())
+    if found:
+        raise Failed("\n  ".join([f"{len(found)} to mend (python3 host/tidy.py):", *found[:10]]))
+    return f"{len(tidy.sources())} files: every import is used, and no line is over {tidy.WIDEST} characters"
