@@ -1,7 +1,7 @@
 """What is promised, as a list to compare: `python3 host/listing.py [ROOT]`.
 
 A line for each function of a library that has a promise, with its signature and
-its clauses, and a line for each theorem of the crates `demands` and `determined`.
+its clauses, and one for each theorem of the crates that have no code but theorems.
 Names stand without their crate and module, so that the list of a tree from before
 a move is the list of the tree after it; two such lists are compared by `diff`.
 """
@@ -9,6 +9,8 @@ import pathlib
 import re
 import sys
 
+# The crates without code that state theorems; `tables` is what `reached` was called once.
+CLAIMS = ("demands", "determined", "grounds", "readback", "reached", "tables")
 HEAD = re.compile(r"^(?:pub )?(?:extern \"C\" )?fn .*?^\{", re.M | re.S)
 STATED = re.compile(r"^( *)pub (?!mod |record |use )([^\s:]+)((?: \{[^}]*\})?) :(.*(?:\n\1 +(?![^\s=]+ .*=).*)*)", re.M)
 
@@ -31,7 +33,7 @@ def functions(root):
 
 def theorems(root):
     """Each theorem that the crates of claims state, without its proof."""
-    for crate in ("demands", "determined"):
+    for crate in CLAIMS:
         for page in sorted(root.glob(f"crates/{crate}/specs/**/*.antt")):
             text = re.sub(r"^ *--.*\n", "", page.read_text(), flags=re.M)
             for _, name, implicit, statement in STATED.findall(text):
@@ -41,7 +43,7 @@ def theorems(root):
 def main(arguments):
     root = pathlib.Path(arguments[0] if arguments else __file__).resolve()
     root = root if arguments else root.parent.parent
-    print("\n".join(sorted({*functions(root), *theorems(root)})))
+    print("\n".join(sorted([*functions(root), *theorems(root)])))
 
 
 if __name__ == "__main__":
