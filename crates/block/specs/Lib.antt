@@ -1,2 +1,2 @@
--- Laws for the crates above `block`; the definitions that its promises cite stand in `rfc1321`.
+-- Laws for the crates above `block`; the definitions that its promises cite stand in `digests`.
 pub mod Laws

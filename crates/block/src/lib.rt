@@ -4,6 +4,9 @@ ghost use Prim.Native.Nat.{_+_, _*_, _<_, _≤_};
 ghost use lib.ListN.{length};
 ghost use Rattle.digests.specs.Padding.{blocks, paddedByte, word, paddedWord, blockAt, little};
 
+// The sum and the rotation of words.
+pub mod words;
+
 // How many blocks the padded message has.
 pub fn count(m: &[u8]) -> usize
     ensures { λ r. ⌜ r ≡ blocks (length (now (m .entry))) ⌝ }

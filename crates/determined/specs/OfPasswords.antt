@@ -1,8 +1,10 @@
--- The promises of `block`, `rounds`, `md5`, `digest`, `inputs`, `password`, `generator` and `eight_bytes` determine their results.
+-- The promises of `block`, `md5`, `password` and `generator` determine their results.
 use mathlib.Core.Path.{sym, _∙_}
 use denote.Ref.{now}
 use Rattle.block.proofs.count.Reads as count
 use Rattle.block.proofs.block.Reads as block
+use Rattle.block.proofs.words.add.Reads as add
+use Rattle.block.proofs.words.rotated.Reads as rotated
 use Rattle.md5.proofs.compress.compress_eight.Reads as compress-eight
 use Rattle.md5.proofs.compress.registers.Reads as registers
 use Rattle.md5.proofs.digest.digest.Reads as digest
@@ -20,6 +22,12 @@ count-determined k a y z e f p q = p ∙ sym q
 
 pub block-determined : Answers block.Learnt
 block-determined k a y z e f p q = p ∙ sym q
+
+pub add-determined : Answers add.Learnt
+add-determined k a y z e f p q = p ∙ sym q
+
+pub rotated-determined : Answers rotated.Learnt
+rotated-determined k a y z e f p q = p ∙ sym q
 
 pub compress-eight-determined : Answers compress-eight.Learnt
 compress-eight-determined k a y z e f p q = p ∙ sym q

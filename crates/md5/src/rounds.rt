@@ -1,16 +1,13 @@
-// RFC 1321, 2 and 3.4: words of 32 bits, and the four rounds on the registers.
+// RFC 1321, 3.4: the four rounds on the registers.
 ghost use mathlib.Core.Path.{_≡_};
 ghost use Rattle.digests.specs.Rounds as spec;
 ghost use Rattle.md5.specs.Sums as code;
-use crate::rounds::operations::round_f;
-use crate::rounds::operations::round_g;
-use crate::rounds::operations::round_h;
-use crate::rounds::operations::round_i;
-use crate::rounds::words::add;
+use crate::rounds::operations::sixteen_of;
+use block::words::add;
 use digests::State;
 
-// Sums, rotations and the four functions on words.
-mod words;
+// The four functions on words.
+mod functions;
 // The operations, and sixteen of them to a round.
 mod operations;
 
@@ -32,9 +29,9 @@ fn increased(q: State, p: State) -> State
 pub fn mixed(q: State, y1: [u32; 16], y2: [u32; 16], y3: [u32; 16], y4: [u32; 16]) -> State
     ensures { λ r. ⌜ r ≡ code.mixed q y1 y2 y3 y4 ⌝ }
 {
-    let q1 = round_f(q, y1);
-    let q2 = round_g(q1, y2);
-    let q3 = round_h(q2, y3);
-    let q4 = round_i(q3, y4);
+    let q1 = sixteen_of(1, q, y1);
+    let q2 = sixteen_of(2, q1, y2);
+    let q3 = sixteen_of(3, q2, y3);
+    let q4 = sixteen_of(4, q3, y4);
     increased(q4, q)
 }

@@ -3,6 +3,7 @@ ghost use mathlib.Core.Path.{_≡_};
 ghost use mathlib.Core.Bool.{true};
 ghost use Rattle.md5.specs.Sums as code;
 ghost use Rattle.md5.specs.Inside as inside;
+use block::words::add;
 
 // Which message word each operation of a round takes: the k of the RFC's [abcd k s i].
 pub const ORDER_1: [usize; 16] = [0, 1, 2, 3, 4, 5, 6, 7, 8, 9, 10, 11, 12, 13, 14, 15];
@@ -99,7 +100,7 @@ pub fn sums(w: [u32; 16], order: [usize; 16], constants: [u32; 16]) -> [u32; 16]
     let mut k = 0;
     while k < 16 {
         let at = order[k];
-        y[k] = std::num::wrapping_add_u32(w[at], constants[k]);
+        y[k] = add(w[at], constants[k]);
         k += 1;
     }
     y

@@ -2,23 +2,23 @@
 use mathlib.Core.Path.{ap, _∙_}
 use borrow.Author.Needs.{needs}
 use Rattle.digests.specs.declared.State.{State}
-use Rattle.digests.specs.Rounds.{G, H, I, round2, round3, round4, increased}
-use Rattle.md5.specs.Sums.{turns, mixed}
+use Rattle.digests.specs.Rounds.{round2, round3, round4, increased}
+use Rattle.md5.specs.Sums.{roundOf, operationsSummed, mixed}
 use Rattle.md5.proofs.rounds.mixed.Statement.{statement}
 use Rattle.md5.proofs.rounds.mixed.Tie as tie
 
 returns : tie.Need-returns
-unfolding mixed
+unfolding mixed roundOf
 returns c =
     let a = c .before .before .before .before .before .args in
     c .increased .ensures
     ∙ ap (λ (x : State). increased x (a .q))
-    (c .before .round-i .ensures
-    ∙ ap (turns I (round4 .shifts) (a .y4) 16)
-    (c .before .before .round-h .ensures
-    ∙ ap (turns H (round3 .shifts) (a .y3) 16)
-    (c .before .before .before .round-g .ensures
-    ∙ ap (turns G (round2 .shifts) (a .y2) 16) (c .before .before .before .before .round-f .ensures))))
+    (c .before .sixteen-of4 .ensures
+    ∙ ap (operationsSummed round4 (a .y4) 16)
+    (c .before .before .sixteen-of3 .ensures
+    ∙ ap (operationsSummed round3 (a .y3) 16)
+    (c .before .before .before .sixteen-of2 .ensures
+    ∙ ap (operationsSummed round2 (a .y2) 16) (c .before .before .before .before .sixteen-of .ensures))))
 
 pub mixed-spec : {M : Type 1} → statement M
 mixed-spec =

@@ -44,5 +44,5 @@ sums-spec =
     (λ c. search needs)
     (λ c. search needs)
     (λ c. search needs)
-    (λ c. filling-goes-on (c .before .before .loop .inv) _ (c .before .loop-test .taken) (c .wrapping-add-u32 .ensures))
+    (λ c. filling-goes-on (c .before .before .loop .inv) _ (c .before .loop-test .taken) (c .add .ensures))
     returns)

@@ -1,21 +1,6 @@
-// RFC 1321, 2 and 3.4: the operations on 32-bit words that the rounds are made of.
+// RFC 1321, 3.4: the four functions, one for each round.
 ghost use mathlib.Core.Path.{_≡_};
-ghost use Prim.Native.Nat.{_<_};
 ghost use Rattle.digests.specs.Rounds as spec;
-
-// The sum without the carry out of the top.
-pub fn add(x: u32, y: u32) -> u32
-    ensures { λ r. ⌜ r ≡ spec.add x y ⌝ }
-{
-    std::num::wrapping_add_u32(x, y)
-}
-
-pub fn rotated(x: u32, s: u32) -> u32
-    requires { ⌜ (0 < s) × (s < 32) ⌝ }
-    ensures { λ r. ⌜ r ≡ spec.rotated x s ⌝ }
-{
-    (x << s) | (x >> (32 - s))
-}
 
 pub fn f(x: u32, y: u32, z: u32) -> u32
     ensures { λ r. ⌜ r ≡ spec.F x y z ⌝ }

@@ -1,14 +1,14 @@
--- `turn` meets its promise: the sums and the rotation, one in the other.
+-- `operation` meets its promise: the sums and the rotation, one in the other.
 use Prim.Native.Nat.{ℕ}
 use mathlib.Core.Path.{_≡_, ap, _∙_}
 use borrow.Author.Needs.{needs}
 use Rattle.digests.specs.Rounds.{add, rotated}
-use Rattle.md5.specs.Sums.{turn}
-use Rattle.md5.proofs.rounds.operations.turn.Statement.{statement}
-use Rattle.md5.proofs.rounds.operations.turn.Tie as tie
+use Rattle.md5.specs.Sums.{operationSummed}
+use Rattle.md5.proofs.rounds.operations.operation.Statement.{statement}
+use Rattle.md5.proofs.rounds.operations.operation.Tie as tie
 
 returns : tie.Need-returns
-unfolding turn
+unfolding operationSummed
 returns c =
     let a = c .before .before .before .before .args in
     let q = a .q in
@@ -19,8 +19,8 @@ returns c =
     ∙ ap (λ (x : ℕ). rotated x (a .s)) (c .before .before .add2 .ensures ∙ ap (λ (x : ℕ). add x (a .v)) (c .before .before .before .add .ensures))) in
     λ i. record { a = q .d; b = b i; c = q .b; d = q .c }
 
-pub turn-spec : {M : Type 1} → statement M
-turn-spec =
+pub operation-spec : {M : Type 1} → statement M
+operation-spec =
     tie.close
     (tie.spec
     (λ c κs. search needs)

@@ -1,0 +1,32 @@
+-- `sixteen_of` meets its promise: four times four operations.
+use borrow.Author.Needs.{needs}
+use Rattle.md5.proofs.rounds.Fours.{sixteen-operations}
+use Rattle.md5.proofs.rounds.operations.sixteen_of.Statement.{statement}
+use Rattle.md5.proofs.rounds.operations.sixteen_of.Tie as tie
+
+returns : tie.Need-returns
+returns c =
+    let start = c .before .before .before .before .before .before .before .before in
+    sixteen-operations (start .args .round) (start .args .y) _ _ _ _ _ _ _ _ _
+    (c .before .before .before .before .before .before .before .part .ensures)
+    (c .before .before .before .before .before .before .four-of .ensures)
+    (c .before .before .before .before .before .part2 .ensures)
+    (c .before .before .before .before .four-of2 .ensures)
+    (c .before .before .before .part3 .ensures)
+    (c .before .before .four-of3 .ensures)
+    (c .before .part4 .ensures)
+    (c .four-of4 .ensures)
+
+pub sixteen-of-spec : {M : Type 1} → statement M
+sixteen-of-spec =
+    tie.close
+    (tie.spec
+    (λ c κs. search needs)
+    (λ c κs. search needs)
+    (λ c κs. search needs)
+    (λ c κs. search needs)
+    (λ c κs. search needs)
+    (λ c κs. search needs)
+    (λ c κs. search needs)
+    (λ c κs. search needs)
+    returns)
