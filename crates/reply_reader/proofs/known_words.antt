@@ -1,2 +1,2 @@
--- Lemmas that the proof of this crate stands on.
+-- A lemma of the proof of `known_words`.
 pub mod Looked

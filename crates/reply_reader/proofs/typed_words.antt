@@ -1,3 +1,3 @@
--- Lemmas that the proofs of this crate share.
+-- Lemmas of the proofs of `typed_words`.
 pub mod TypedLetters
 pub mod TokensRead

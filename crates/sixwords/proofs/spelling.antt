@@ -1,3 +1,3 @@
--- Lemmas that the proofs of this crate share.
+-- Lemmas of the proofs of `spelling`.
 pub mod PackedLetters
 pub mod Spacing

@@ -1,3 +1,5 @@
 -- Lemmas of this crate's proofs.
 mod Ends
 mod Spans
+mod Arms
+mod RowLaws

@@ -1,2 +1,2 @@
--- What the private functions of `lookup` promise.
+-- What the private functions of `wordlist` promise.
 pub mod Inside

@@ -2,8 +2,7 @@
 ghost use mathlib.Core.Path.{_≡_};
 ghost use Prim.Native.Nat.{_+_, _*_, _≤_, _<_};
 ghost use Rattle.dictionary.specs.Dictionary.{packedAt, foundOf};
-ghost use Rattle.dictionary.specs.Rows.{rowOf};
-ghost use Rattle.wordlist.specs.Inside.{Span};
+ghost use Rattle.wordlist.specs.Inside.{rowOf, Span};
 use crate::heads::head;
 use crate::rows::row;
 use dictionary::Found;

@@ -1,7 +1,7 @@
 // The dictionary of RFC 2289, Appendix D, as packed words: 128 rows of 16, and a `match` that picks one, since a table that is
 // read at a place known only at run time is first built on the stack, all 8 KiB of it. `FROM_n` has places n to n + 15.
 ghost use mathlib.Core.Path.{_≡_};
-ghost use Rattle.dictionary.specs.Rows.{rowOf};
+ghost use Rattle.wordlist.specs.Inside.{rowOf};
 
 const FROM_0: [u32; 16] = [
     0x410000,

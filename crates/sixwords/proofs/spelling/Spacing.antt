@@ -75,19 +75,17 @@ module _ (ws b₀ b : List ℕ) (k at : ℕ) (six : length ws ≡ 6) (fits : len
   pub word-room : k < 5 → length (lettersOf (getD ws k 0)) < length (midOf at (length b - at) b)
   word-room h = omega (arith, length-rest-lent at b, before .0, ended-room ws k (omega arith))
 
+  -- one word more, which takes at most what all take
   pub word-put : (ys : List ℕ) (m : ℕ) → k < 5 → Put (lettersOf (getD ws k 0) ++ 32 ∷ []) (midOf at (length b - at) b) ys m →
-      Put (ended (take (k + 1) (spelt ws))) b₀ (putMid at (length b - at) b ys) (at + m)
+      (at + m ≤ length b₀)
+      × (length (putMid at (length b - at) b ys) ≡ length b₀)
+      × (Put (ended (take (k + 1) (spelt ws))) b₀ (putMid at (length b - at) b ys) (at + m))
   word-put ys m h p =
-      rw (ended-more ws k (omega arith)) (then-put (ended (take k (spelt ws))) (lettersOf (getD ws k 0) ++ 32 ∷ []) b₀ b ys at m before p)
-
-  -- at most what all take
-  pub word-fits : (ys : List ℕ) (m : ℕ) → k < 5 → Put (lettersOf (getD ws k 0) ++ 32 ∷ []) (midOf at (length b - at) b) ys m →
-      (at + m ≤ length b₀) × (length (putMid at (length b - at) b ys) ≡ length b₀)
-  word-fits ys m h p =
-      let put = word-put ys m h p in
+      let put : Put (ended (take (k + 1) (spelt ws))) b₀ (putMid at (length b - at) b ys) (at + m) =
+      rw (ended-more ws k (omega arith)) (then-put (ended (take k (spelt ws))) (lettersOf (getD ws k 0) ++ 32 ∷ []) b₀ b ys at m before p) in
       let room = ended-room ws k (omega arith) in
       let more = more-length ws k (omega arith) in
-      (omega (arith, put .0, room, more), ap length (put .1) ∙ length-front (ended (take (k + 1) (spelt ws))) b₀ (omega (arith, room, more)))
+      (omega (arith, put .0, room, more), ap length (put .1) ∙ length-front (ended (take (k + 1) (spelt ws))) b₀ (omega (arith, room, more)), put)
 
   module _ (last : k ≡ 5) where
     five : ended (take k (spelt ws)) ++ lettersOf (getD ws 5 0) ≡ spaced (spelt ws)

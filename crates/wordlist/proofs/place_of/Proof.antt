@@ -5,8 +5,8 @@ use mathlib.Core.List.{List}
 use borrow.Author.Needs.{needs}
 use lib.ListN.{getD}
 use Rattle.dictionary.specs.Dictionary.{packedAt}
-use Rattle.dictionary.specs.RowLaws.{row-at}
 use Rattle.wordlist.proofs.Ends.{ends-at, ends-beside}
+use Rattle.wordlist.proofs.RowLaws.{row-at}
 use Rattle.wordlist.proofs.place_of.Statement.{statement}
 use Rattle.wordlist.proofs.place_of.Tie as tie
 

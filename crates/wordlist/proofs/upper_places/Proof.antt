@@ -6,8 +6,8 @@ use native.Mathlib.Omega.{arith}
 use borrow.Author.Needs.{needs}
 use lib.ListN.{getD}
 use Rattle.dictionary.specs.Dictionary.{packedAt}
-use Rattle.dictionary.specs.RowLaws.{row-at}
 use Rattle.wordlist.proofs.Spans.{upper, lower}
+use Rattle.wordlist.proofs.RowLaws.{row-at}
 use Rattle.wordlist.proofs.upper_places.Statement.{statement}
 use Rattle.wordlist.proofs.upper_places.Tie as tie
 

@@ -4,7 +4,7 @@ use mathlib.Core.Path.{_≡_, _∙_, ap}
 use native.Mathlib.Omega.{arith}
 use borrow.Author.Needs.{needs}
 use Rattle.dictionary.specs.Dictionary.{packedAt}
-use Rattle.dictionary.specs.RowLaws.{row-at}
+use Rattle.wordlist.proofs.RowLaws.{row-at}
 use Rattle.wordlist.proofs.word_at.Statement.{statement}
 use Rattle.wordlist.proofs.word_at.Tie as tie
 

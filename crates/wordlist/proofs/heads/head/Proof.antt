@@ -1,145 +1,34 @@
--- `head` meets its promise: in each arm the row's number is known, and the lines of the dictionary compute to words of which the arm has the first.
-use mathlib.Core.Path.{refl}
+-- `head` meets its promise: the arms are the first words of the dictionary's rows, which antt computes.
+use Prim.Native.Nat.{ℕ, _+_, _*_}
+use native.Mathlib.Omega.{arith}
+use mathlib.Core.Path.{_≡_, _∙_, ap}
+use mathlib.Core.List.{List, map, flatten}
+use lib.ListN.{getD, replicate, List·getD-map}
+use borrow.Fn.Plain.{t-fn-plain}
 use Rattle.text.specs.Quoted.{codes}
-use Rattle.dictionary.specs.Words.{wordsIn, lines}
-use Rattle.dictionary.specs.Dictionary.{packed, numberFrom}
-use Rattle.dictionary.specs.Rows.{lineOf, rowOf}
-use Rattle.dictionary.specs.RowLaws.{starts, no-start}
-use Rattle.dictionary.specs.Passed.{beyond}
+use Rattle.dictionary.specs.Words.{wordsIn, lines, words}
+use Rattle.dictionary.specs.Dictionary.{packed, numberFrom, dictionary, packedAt}
+use Rattle.wordlist.specs.Inside.{cutIn, rowOf}
+use Rattle.wordlist.proofs.Arms.{arms}
+use Rattle.wordlist.proofs.RowLaws.{row-at}
 use Rattle.wordlist.proofs.heads.head.Statement.{statement}
+use Rattle.wordlist.proofs.heads.head.Reads as reads
+use Rattle.wordlist.proofs.heads.head.Lts as lts
 use Rattle.wordlist.proofs.heads.head.Tie as tie
 
+abbrev first : List ℕ → ℕ
+first l = getD l 0 0
+
+starts : (i : ℕ) → getD (map first (cutIn 128 dictionary)) i 0 ≡ packedAt (i * 16)
+unfolding rowOf
+starts i =
+    let same : i * 16 + 0 ≡ i * 16 = omega arith in
+    List·getD-map first (cutIn 128 dictionary) i (replicate 16 0) ∙ row-at i 0 (omega arith) ∙ ap packedAt same
+
+-- `tie.spec` asks for an answer to each arm; the rule below it asks for one to all.
 pub head-spec : {M : Type 1} → statement M
-unfolding rowOf lineOf codes wordsIn lines packed numberFrom
+unfolding cutIn dictionary words flatten codes wordsIn lines packed numberFrom
 head-spec =
-    tie.close
-    (tie.spec
-    (λ c. starts _ 0 _ (c .match .keys1) refl)
-    (λ c. starts _ 1 _ (c .match .keys2) refl)
-    (λ c. starts _ 2 _ (c .match .keys3) refl)
-    (λ c. starts _ 3 _ (c .match .keys4) refl)
-    (λ c. starts _ 4 _ (c .match .keys5) refl)
-    (λ c. starts _ 5 _ (c .match .keys6) refl)
-    (λ c. starts _ 6 _ (c .match .keys7) refl)
-    (λ c. starts _ 7 _ (c .match .keys8) refl)
-    (λ c. starts _ 8 _ (c .match .keys9) refl)
-    (λ c. starts _ 9 _ (c .match .keys10) refl)
-    (λ c. starts _ 10 _ (c .match .keys11) refl)
-    (λ c. starts _ 11 _ (c .match .keys12) refl)
-    (λ c. starts _ 12 _ (c .match .keys13) refl)
-    (λ c. starts _ 13 _ (c .match .keys14) refl)
-    (λ c. starts _ 14 _ (c .match .keys15) refl)
-    (λ c. starts _ 15 _ (c .match .keys16) refl)
-    (λ c. starts _ 16 _ (c .match .keys17) refl)
-    (λ c. starts _ 17 _ (c .match .keys18) refl)
-    (λ c. starts _ 18 _ (c .match .keys19) refl)
-    (λ c. starts _ 19 _ (c .match .keys20) refl)
-    (λ c. starts _ 20 _ (c .match .keys21) refl)
-    (λ c. starts _ 21 _ (c .match .keys22) refl)
-    (λ c. starts _ 22 _ (c .match .keys23) refl)
-    (λ c. starts _ 23 _ (c .match .keys24) refl)
-    (λ c. starts _ 24 _ (c .match .keys25) refl)
-    (λ c. starts _ 25 _ (c .match .keys26) refl)
-    (λ c. starts _ 26 _ (c .match .keys27) refl)
-    (λ c. starts _ 27 _ (c .match .keys28) refl)
-    (λ c. starts _ 28 _ (c .match .keys29) refl)
-    (λ c. starts _ 29 _ (c .match .keys30) refl)
-    (λ c. starts _ 30 _ (c .match .keys31) refl)
-    (λ c. starts _ 31 _ (c .match .keys32) refl)
-    (λ c. starts _ 32 _ (c .match .keys33) refl)
-    (λ c. starts _ 33 _ (c .match .keys34) refl)
-    (λ c. starts _ 34 _ (c .match .keys35) refl)
-    (λ c. starts _ 35 _ (c .match .keys36) refl)
-    (λ c. starts _ 36 _ (c .match .keys37) refl)
-    (λ c. starts _ 37 _ (c .match .keys38) refl)
-    (λ c. starts _ 38 _ (c .match .keys39) refl)
-    (λ c. starts _ 39 _ (c .match .keys40) refl)
-    (λ c. starts _ 40 _ (c .match .keys41) refl)
-    (λ c. starts _ 41 _ (c .match .keys42) refl)
-    (λ c. starts _ 42 _ (c .match .keys43) refl)
-    (λ c. starts _ 43 _ (c .match .keys44) refl)
-    (λ c. starts _ 44 _ (c .match .keys45) refl)
-    (λ c. starts _ 45 _ (c .match .keys46) refl)
-    (λ c. starts _ 46 _ (c .match .keys47) refl)
-    (λ c. starts _ 47 _ (c .match .keys48) refl)
-    (λ c. starts _ 48 _ (c .match .keys49) refl)
-    (λ c. starts _ 49 _ (c .match .keys50) refl)
-    (λ c. starts _ 50 _ (c .match .keys51) refl)
-    (λ c. starts _ 51 _ (c .match .keys52) refl)
-    (λ c. starts _ 52 _ (c .match .keys53) refl)
-    (λ c. starts _ 53 _ (c .match .keys54) refl)
-    (λ c. starts _ 54 _ (c .match .keys55) refl)
-    (λ c. starts _ 55 _ (c .match .keys56) refl)
-    (λ c. starts _ 56 _ (c .match .keys57) refl)
-    (λ c. starts _ 57 _ (c .match .keys58) refl)
-    (λ c. starts _ 58 _ (c .match .keys59) refl)
-    (λ c. starts _ 59 _ (c .match .keys60) refl)
-    (λ c. starts _ 60 _ (c .match .keys61) refl)
-    (λ c. starts _ 61 _ (c .match .keys62) refl)
-    (λ c. starts _ 62 _ (c .match .keys63) refl)
-    (λ c. starts _ 63 _ (c .match .keys64) refl)
-    (λ c. starts _ 64 _ (c .match .keys65) refl)
-    (λ c. starts _ 65 _ (c .match .keys66) refl)
-    (λ c. starts _ 66 _ (c .match .keys67) refl)
-    (λ c. starts _ 67 _ (c .match .keys68) refl)
-    (λ c. starts _ 68 _ (c .match .keys69) refl)
-    (λ c. starts _ 69 _ (c .match .keys70) refl)
-    (λ c. starts _ 70 _ (c .match .keys71) refl)
-    (λ c. starts _ 71 _ (c .match .keys72) refl)
-    (λ c. starts _ 72 _ (c .match .keys73) refl)
-    (λ c. starts _ 73 _ (c .match .keys74) refl)
-    (λ c. starts _ 74 _ (c .match .keys75) refl)
-    (λ c. starts _ 75 _ (c .match .keys76) refl)
-    (λ c. starts _ 76 _ (c .match .keys77) refl)
-    (λ c. starts _ 77 _ (c .match .keys78) refl)
-    (λ c. starts _ 78 _ (c .match .keys79) refl)
-    (λ c. starts _ 79 _ (c .match .keys80) refl)
-    (λ c. starts _ 80 _ (c .match .keys81) refl)
-    (λ c. starts _ 81 _ (c .match .keys82) refl)
-    (λ c. starts _ 82 _ (c .match .keys83) refl)
-    (λ c. starts _ 83 _ (c .match .keys84) refl)
-    (λ c. starts _ 84 _ (c .match .keys85) refl)
-    (λ c. starts _ 85 _ (c .match .keys86) refl)
-    (λ c. starts _ 86 _ (c .match .keys87) refl)
-    (λ c. starts _ 87 _ (c .match .keys88) refl)
-    (λ c. starts _ 88 _ (c .match .keys89) refl)
-    (λ c. starts _ 89 _ (c .match .keys90) refl)
-    (λ c. starts _ 90 _ (c .match .keys91) refl)
-    (λ c. starts _ 91 _ (c .match .keys92) refl)
-    (λ c. starts _ 92 _ (c .match .keys93) refl)
-    (λ c. starts _ 93 _ (c .match .keys94) refl)
-    (λ c. starts _ 94 _ (c .match .keys95) refl)
-    (λ c. starts _ 95 _ (c .match .keys96) refl)
-    (λ c. starts _ 96 _ (c .match .keys97) refl)
-    (λ c. starts _ 97 _ (c .match .keys98) refl)
-    (λ c. starts _ 98 _ (c .match .keys99) refl)
-    (λ c. starts _ 99 _ (c .match .keys100) refl)
-    (λ c. starts _ 100 _ (c .match .keys101) refl)
-    (λ c. starts _ 101 _ (c .match .keys102) refl)
-    (λ c. starts _ 102 _ (c .match .keys103) refl)
-    (λ c. starts _ 103 _ (c .match .keys104) refl)
-    (λ c. starts _ 104 _ (c .match .keys105) refl)
-    (λ c. starts _ 105 _ (c .match .keys106) refl)
-    (λ c. starts _ 106 _ (c .match .keys107) refl)
-    (λ c. starts _ 107 _ (c .match .keys108) refl)
-    (λ c. starts _ 108 _ (c .match .keys109) refl)
-    (λ c. starts _ 109 _ (c .match .keys110) refl)
-    (λ c. starts _ 110 _ (c .match .keys111) refl)
-    (λ c. starts _ 111 _ (c .match .keys112) refl)
-    (λ c. starts _ 112 _ (c .match .keys113) refl)
-    (λ c. starts _ 113 _ (c .match .keys114) refl)
-    (λ c. starts _ 114 _ (c .match .keys115) refl)
-    (λ c. starts _ 115 _ (c .match .keys116) refl)
-    (λ c. starts _ 116 _ (c .match .keys117) refl)
-    (λ c. starts _ 117 _ (c .match .keys118) refl)
-    (λ c. starts _ 118 _ (c .match .keys119) refl)
-    (λ c. starts _ 119 _ (c .match .keys120) refl)
-    (λ c. starts _ 120 _ (c .match .keys121) refl)
-    (λ c. starts _ 121 _ (c .match .keys122) refl)
-    (λ c. starts _ 122 _ (c .match .keys123) refl)
-    (λ c. starts _ 123 _ (c .match .keys124) refl)
-    (λ c. starts _ 124 _ (c .match .keys125) refl)
-    (λ c. starts _ 125 _ (c .match .keys126) refl)
-    (λ c. starts _ 126 _ (c .match .keys127) refl)
-    (λ c. starts _ 127 _ (c .match .keys128) refl)
-    (λ c. no-start (c .before .args .i) (beyond 128 (c .before .args .i) (c .match .rest))))
+    tie.close (λ 𝓤 H A W 𝓣. t-fn-plain 𝓤 H A W 𝓣 0 lts.ps lts.r lts.xs lts.m lts.hs lts.body (λ κs qs bs. lts.Φ reads.Pre reads.Post)
+    (λ κs qs bs bd. lts.typed reads.Pre reads.Post κs qs 𝓤 H A W 𝓣 bs bd) reads.Pre reads.Post
+    (λ κs qs a good pre bs. arms (packedAt (a .0 * 16)) 0 (a .0) (map first (cutIn 128 dictionary)) (starts (a .0))))

@@ -23,19 +23,14 @@ loop-holds : tie.Need-loop-holds Inv-loop μ-loop
 unfolding ended
 loop-holds c = (omega arith, search needs, omega arith, refl)
 
-add-n : tie.Need-add-n Inv-loop μ-loop
-add-n c = omega (arith, c .letters .ensures, few-letters (getD (c .before .before .before .args .t1) (c .before .before .loop .k) 0))
-
-add-n-2 : tie.Need-add-n-2 Inv-loop μ-loop
-add-n-2 c = omega (arith, c .letters .ensures, few-letters (getD (c .before .before .before .args .t1) (c .before .before .loop .k) 0))
+few : (c : tie.After-letters Inv-loop μ-loop) → c .letters .result ≤ 4
+few c = omega (arith, c .letters .ensures, few-letters (getD (c .before .before .before .args .t1) (c .before .before .loop .k) 0))
 
 loop-again : tie.Need-loop-again Inv-loop μ-loop
 loop-again c =
     let at = c .before .before .loop in
-    let words = c .before .before .before .args .t1 in
-    let few = few-letters (getD words (at .k) 0) in
-    let more = more-length words (at .k) (omega arith) in
-    (omega arith, at .inv .1, omega (arith, few, c .letters .ensures), omega (arith, more, c .letters .ensures))
+    let more = more-length (c .before .before .before .args .t1) (at .k) (omega arith) in
+    (omega arith, at .inv .1, omega (arith, few c), omega (arith, more, c .letters .ensures))
 
 whole : (c : tie.After-loop Inv-loop μ-loop) → c .before .loop .n ≡ length (spaced (map lettersOf (c .before .before .args .t1))) + 1
 whole c =
@@ -60,8 +55,8 @@ length-of-spec =
     (λ c. omega arith)
     (λ c. omega arith)
     (λ c κs. search needs)
-    add-n
-    add-n-2
+    (λ c. omega (arith, few c))
+    (λ c. omega (arith, few c))
     (λ c. omega arith)
     (λ c. omega arith)
     loop-again

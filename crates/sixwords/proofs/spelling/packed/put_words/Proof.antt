@@ -10,7 +10,7 @@ use Rattle.text.specs.PutLaws.{length-front}
 use Rattle.dictionary.specs.Dictionary.{lettersOf}
 use Rattle.sixwords.specs.Spelling.{spaced}
 use Rattle.sixwords.specs.Inside.{ended}
-use Rattle.sixwords.proofs.spelling.Spacing.{word-room, word-put, word-fits, last-room, last-put}
+use Rattle.sixwords.proofs.spelling.Spacing.{word-room, word-put, last-room, last-put}
 use Rattle.sixwords.proofs.spelling.packed.put_words.Statement.{statement}
 use Rattle.sixwords.proofs.spelling.packed.put_words.Tie as tie
 
@@ -36,32 +36,17 @@ put-word-requires c κs =
     word-room (a .t2) (a .buf .now) (at .buf) (at .k) (at .at) (at .inv .1) (c .before .before .before .before .pre) (at .inv .2) (at .inv .4)
     (omega arith)
 
-add-at : tie.Need-add-at Inv-loop μ-loop
-add-at c =
-    let at = c .before .before .before .before .before .loop in
-    let a = c .before .before .before .before .before .before .before .args in
-    omega (
-      arith,
-      word-fits (a .t2) (a .buf .now) (at .buf) (at .k) (at .at) (at .inv .1)
-          (c .before .before .before .before .before .before .before .pre) (at .inv .2) (at .inv .4) (c .before .before .put-word .last .0)
-          (c .before .before .put-word .result) (omega arith) (c .before .before .put-word .ensures) .0,
-    )
-
 loop-again : tie.Need-loop-again Inv-loop μ-loop
 loop-again c =
     let at = c .before .before .before .before .before .loop in
     let a = c .before .before .before .before .before .before .before .args in
-    let fits = word-fits (a .t2) (a .buf .now) (at .buf) (at .k) (at .at) (at .inv .1)
+    let put = word-put (a .t2) (a .buf .now) (at .buf) (at .k) (at .at) (at .inv .1)
     (c .before .before .before .before .before .before .before .pre) (at .inv .2) (at .inv .4) (c .before .before .put-word .last .0)
-    (c .before .before .put-word .result) (omega arith) (c .before .before .put-word .ensures) in (
-      omega arith,
-      at .inv .1,
-      fits .1,
-      omega (arith, fits .0, fits .1),
-      word-put (a .t2) (a .buf .now) (at .buf) (at .k) (at .at) (at .inv .1)
-          (c .before .before .before .before .before .before .before .pre) (at .inv .2) (at .inv .4) (c .before .before .put-word .last .0)
-          (c .before .before .put-word .result) (omega arith) (c .before .before .put-word .ensures),
-    )
+    (c .before .before .put-word .result) (omega arith) (c .before .before .put-word .ensures) in
+    (omega arith, at .inv .1, put .1, omega (arith, put .0, put .1), put .2)
+
+add-at : tie.Need-add-at Inv-loop μ-loop
+add-at c = omega (arith, loop-again c .2, loop-again c .3)
 
 put-letters-requires : tie.Need-put-letters-requires Inv-loop μ-loop
 put-letters-requires c κs =
@@ -70,28 +55,6 @@ put-letters-requires c κs =
     last-room (a .t2) (a .buf .now) (at .buf) (at .k) (at .at) (at .inv .1) (c .before .before .before .before .pre) (at .inv .2) (at .inv .4)
     (omega arith)
 
-add-result : tie.Need-add-result Inv-loop μ-loop
-add-result c =
-    let at = c .before .before .before .before .before .loop in
-    let a = c .before .before .before .before .before .before .before .args in
-    omega (
-      arith,
-      last-put (a .t2) (a .buf .now) (at .buf) (at .k) (at .at) (at .inv .1)
-          (c .before .before .before .before .before .before .before .pre) (at .inv .2) (at .inv .4) (omega arith) (c .before .before .put-letters .last .0)
-          (c .before .before .put-letters .result)
-          (c .before .before .put-letters .ensures) .0,
-      c .before .before .before .before .before .before .before .pre,
-    )
-
-same-length : tie.Need-same-length Inv-loop μ-loop
-same-length c =
-    let at = c .before .before .before .before .before .loop in
-    let a = c .before .before .before .before .before .before .before .args in
-    ap length (last-put (a .t2) (a .buf .now) (at .buf) (at .k) (at .at) (at .inv .1) (c .before .before .before .before .before .before .before .pre)
-    (at .inv .2) (at .inv .4) (omega arith) (c .before .before .put-letters .last .0) (c .before .before .put-letters .result)
-    (c .before .before .put-letters .ensures) .1) ∙ length-front (spaced (map lettersOf (a .t2))) (a .buf .now)
-    (c .before .before .before .before .before .before .before .pre)
-
 returns : tie.Need-returns Inv-loop μ-loop
 returns c =
     let at = c .before .before .before .before .before .loop in
@@ -99,6 +62,15 @@ returns c =
     last-put (a .t2) (a .buf .now) (at .buf) (at .k) (at .at) (at .inv .1) (c .before .before .before .before .before .before .before .pre)
     (at .inv .2) (at .inv .4) (omega arith) (c .before .before .put-letters .last .0) (c .before .before .put-letters .result)
     (c .before .before .put-letters .ensures)
+
+add-result : tie.Need-add-result Inv-loop μ-loop
+add-result c = omega (arith, returns c .0, c .before .before .before .before .before .before .before .pre)
+
+same-length : tie.Need-same-length Inv-loop μ-loop
+same-length c =
+    let a = c .before .before .before .before .before .before .before .args in
+    ap length (returns c .1) ∙
+    length-front (spaced (map lettersOf (a .t2))) (a .buf .now) (c .before .before .before .before .before .before .before .pre)
 
 pub put-words-spec : {M : Type 1} → statement M
 put-words-spec =
