@@ -1,4 +1,4 @@
--- The promises of the crates of counts, challenges and cards determine their results.
+-- The promises of `text`'s counts, `challenge` and `cards` determine their results.
 use mathlib.Core.Path.{sym, _∙_}
 use denote.Ref.{now}
 use Rattle.text.proofs.counts.read_count.Reads as read-count

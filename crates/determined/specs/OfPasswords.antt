@@ -1,4 +1,4 @@
--- The promises of `block`, `rounds`, `md5`, `digest`, `inputs`, `password`, `generator` and `eight_bytes` determine their results.
+-- The promises of `block`, `md5`, `password` and `generator` determine their results.
 use mathlib.Core.Path.{sym, _∙_}
 use denote.Ref.{now}
 use Rattle.block.proofs.count.Reads as count

@@ -1,4 +1,4 @@
--- The promises of `refusal`, `text`, `scan` and `put` determine their results.
+-- The promises of `refusal` and `text` determine their results; those of its counts are in OfChallenges.
 use mathlib.Core.Path.{sym, _∙_}
 use denote.Ref.{now}
 use Rattle.refusal.proofs.listing_of.Reads as listing-of

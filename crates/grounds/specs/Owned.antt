@@ -17,9 +17,9 @@ use Rattle.table.specs.Steps as Steps
 use Rattle.reached.specs.Calls.{Call, after, run}
 use Rattle.reached.specs.InTurn.{quiet, HasTurn}
 use Rattle.reached.specs.Each.{Each}
-use Rattle.grounds.specs.RoomsChanged.{there-parts, other-same}
-use Rattle.grounds.specs.Outcome as Outcome
-use Rattle.grounds.specs.Outcome.{Outcome, outcome}
+use Rattle.reached.specs.RoomsChanged.{there-parts, other-same}
+use Rattle.reached.specs.Outcome as Outcome
+use Rattle.reached.specs.Outcome.{Outcome, outcome}
 use Rattle.grounds.specs.Standing.{none-others, none-append}
 use Rattle.grounds.specs.Moved.{Moved, moved}
 use Rattle.grounds.specs.WaitFalls.{isPlace, leads, place-is}
@@ -58,7 +58,7 @@ account-kept : (c : Call) (s : State) (p i : ℕ) {s′ : State} → Outcome c s
     → accountOf i s′ ≡ accountOf i s
 unfolding Steps.tick
 account-kept c s p i (Outcome.nothing z) h t q = refl
-account-kept c s p i (Outcome.enrolled z room a n d) h t q =
+account-kept c s p i (Outcome.enrolled z room a n d f) h t q =
     other-same i 0 (s .rooms) room (there-parts i (s .rooms) h .0)
     (λ e. true≢false (sym h ∙ ap (λ (j : ℕ). isThere j s) (sym e) ∙ d))
 account-kept c s p i (Outcome.removed z id d n) h t q =

@@ -15,7 +15,7 @@ use Rattle.table.specs.Table.{State, fresh, hasTurn, turnId, withLine}
 use Rattle.table.specs.Steps.{refused, done, joinChecked, join}
 use Rattle.reached.specs.Calls.{Call, after, run}
 use Rattle.reached.specs.InTurn.{Reached, tickOf, ticks, quiet, quietMeanwhile, HasTurn, TurnBegins}
-use Rattle.grounds.specs.Outcome.{outcome, join-good}
+use Rattle.reached.specs.Outcome.{outcome, join-good}
 use Rattle.reached.specs.Made.{TurnRight, Standing}
 use Rattle.grounds.specs.Standing.{standing-joined}
 use Rattle.grounds.specs.Moved.{moved, standing-moved}
