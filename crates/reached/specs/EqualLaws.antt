@@ -31,7 +31,7 @@ use Rattle.table.specs.TableChecks.{idGiven, portKnown, notInLine, portOpen, in
 use Rattle.table.specs.Steps as steps
 use Rattle.table.specs.Steps.{enrolChecked, joinChecked, leaveChecked, turnChecked, renewChecked}
 use Rattle.table.specs.Passed.{enrol-passed, turn-passed, renew-passed, challenge-refused, challenge-done}
-use Rattle.reached.specs.Equal.{accountBy, SameAccounts, Equal, Alike, times}
+use Rattle.reached.specs.Equal.{accountBy, SameAccounts, Equal, Alike, times, Housed}
 use Rattle.reached.specs.RoomsChanged.{there-parts}
 use Rattle.reached.specs.RoomsFound.{holds-times, placed-id, account-by, found-none, set-other, set-here, times-set, accounts-free, same-count}
 
@@ -80,12 +80,11 @@ module _ (P : List Port) (W : Waiting) (l m : List Room) (h : SameAccounts l m) 
 
   -- ---- the checks
 
-  module _ (all-l : length l ≡ 32) (all-m : length m ≡ 32) (once-l : (id : ℕ) → (id ≡ 0 → ⊥)
-      → times id l ≤ 1) (once-m : (id : ℕ) → (id ≡ 0 → ⊥) → times id m ≤ 1) where
+  module _ (a : Housed (table P W l)) (b : Housed (table P W m)) where
     -- "53 is given exactly when 32 accounts are there", so in both or in neither.
     room-same : holds 0 l ≡ holds 0 m
     room-same =
-        let free-same : times 0 l ≡ times 0 m = omega (arith, accounts-free l, accounts-free m, same-count l m once-l once-m h) in
+        let free-same : times 0 l ≡ times 0 m = omega (arith, accounts-free l, accounts-free m, a .all, b .all, same-count l m (a .once) (b .once) h) in
         holds-times 0 l ∙ ap (ltb 0) free-same ∙ sym (holds-times 0 m)
 
     enrol-check : (id count : ℕ) (seed : List ℕ) → enrolChecked id count seed (table P W l) ≡ enrolChecked id count seed (table P W m)
@@ -172,28 +171,24 @@ module _ (P : List Port) (W : Waiting) (l m : List Room) (h : SameAccounts l m) 
 
   -- ---- the calls
 
-  -- Behind checks that say the same of both tables.
-  settled-alike : (j k : Checked) → j ≡ k → (next other : steps.After Checked) → (j ≡ Checked.Good → Alike next other)
-      → Alike (unless (steps.refused (table P W l)) j next) (unless (steps.refused (table P W m)) k other)
-  settled-alike Checked.Good k e next other f = subst (λ (c : Checked). Alike next (unless (steps.refused (table P W m)) c other)) e (f refl)
-  settled-alike (Checked.Refused why) k e next other f =
-      subst (λ (c : Checked). Alike (steps.refused (table P W l) why) (unless (steps.refused (table P W m)) c other)) e
-      (alike (Checked.Refused why) P W l m h)
-
-  replied-alike : (j k : Checked) → j ≡ k → (next other : steps.After Replied) → (j ≡ Checked.Good → Alike next other)
-      → Alike (unless (steps.replyRefused (table P W l)) j next) (unless (steps.replyRefused (table P W m)) k other)
-  replied-alike Checked.Good k e next other f = subst (λ (c : Checked). Alike next (unless (steps.replyRefused (table P W m)) c other)) e (f refl)
-  replied-alike (Checked.Refused why) k e next other f =
-      subst (λ (c : Checked). Alike (steps.replyRefused (table P W l) why) (unless (steps.replyRefused (table P W m)) c other)) e
-      (alike (Replied.Refused why) P W l m h)
+  -- Behind checks that say the same of both tables, whatever kind the answer is.
+  checked-alike : {A : Type 0} (refuse : Refusal → A) (j k : Checked) → j ≡ k → (next other : steps.After A) → (j ≡ Checked.Good → Alike next other)
+      → Alike (unless (λ why. record { answer = refuse why; state = table P W l }) j next)
+      (unless (λ why. record { answer = refuse why; state = table P W m }) k other)
+  checked-alike refuse Checked.Good k e next other f =
+      subst (λ (c : Checked). Alike next (unless (λ why. record { answer = refuse why; state = table P W m }) c other)) e (f refl)
+  checked-alike refuse (Checked.Refused why) k e next other f =
+      subst (λ (c : Checked). Alike (record { answer = refuse why; state = table P W l })
+      (unless (λ why. record { answer = refuse why; state = table P W m }) c other)) e
+      (alike (refuse why) P W l m h)
 
   pub join-alike : (port id : ℕ) → Alike (steps.join port id (table P W l)) (steps.join port id (table P W m))
   unfolding steps.join
-  join-alike port id = settled-alike _ _ (join-check port id) _ _ (λ e. alike Checked.Good P _ l m h)
+  join-alike port id = checked-alike Checked.Refused _ _ (join-check port id) _ _ (λ e. alike Checked.Good P _ l m h)
 
   pub leave-alike : (port : ℕ) → Alike (steps.leave port (table P W l)) (steps.leave port (table P W m))
   unfolding steps.leave leaveChecked
-  leave-alike port = settled-alike (leaveChecked port (table P W l)) _ refl _ _ (λ e. alike Checked.Good P _ l m h)
+  leave-alike port = checked-alike Checked.Refused (leaveChecked port (table P W l)) _ refl _ _ (λ e. alike Checked.Good P _ l m h)
 
   pub challenge-same : (port room : ℕ) → steps.challenge port room (table P W l) ≡ steps.challenge port room (table P W m)
   challenge-same port room = by (turnChecked port (table P W l)) refl
@@ -270,41 +265,40 @@ module _ (P : List Port) (W : Waiting) (l m : List Room) (h : SameAccounts l m) 
   pub reply-alike : (port : ℕ) (text : List ℕ) → Alike (steps.reply port text (table P W l)) (steps.reply port text (table P W m))
   unfolding steps.reply steps.replyRead
   reply-alike port text =
-      replied-alike _ _ (turn-check port) _ _
+      checked-alike Replied.Refused _ _ (turn-check port) _ _
       (λ e. read-alike port text lowered (turn-passed port (table P W l) e .there) (λ room password. refl))
 
   pub renew-alike : (port count : ℕ) (seed new text : List ℕ)
       → Alike (steps.renew port count seed new text (table P W l)) (steps.renew port count seed new text (table P W m))
   unfolding steps.renew steps.renewRead
   renew-alike port count seed new text =
-      replied-alike _ _ (renew-check port count seed) _ _
+      checked-alike Replied.Refused _ _ (renew-check port count seed) _ _
       (λ e. read-alike port text (λ room password. newRoom (room .id) count seed new)
       (turn-passed port (table P W l) (renew-passed port count seed (table P W l) e .turn) .there) (λ room password. refl))
 
-  module _ (all-l : length l ≡ 32) (all-m : length m ≡ 32) (once-l : (id : ℕ) → (id ≡ 0 → ⊥)
-      → times id l ≤ 1) (once-m : (id : ℕ) → (id ≡ 0 → ⊥) → times id m ≤ 1) where
+  module _ (a : Housed (table P W l)) (b : Housed (table P W m)) where
     pub remove-alike : (id : ℕ) → Alike (steps.remove id (table P W l)) (steps.remove id (table P W m))
     unfolding steps.remove
     remove-alike id =
-        settled-alike _ _ (ap (λ (b : Bool). must b Refusal.AccountMissing) (there-same id)) _ _
+        checked-alike Checked.Refused _ _ (ap (λ (b : Bool). must b Refusal.AccountMissing) (there-same id)) _ _
         (λ e.
         let at = there-parts id l (must-good _ _ e) in
         let to = there-parts id m (sym (there-same id) ∙ must-good _ _ e) in
         alike Checked.Good P _ (set l (placeOf id l) free) (set m (placeOf id m) free)
         (taken-same id (placeOf id l) (placeOf id m) (at .0) (at .1) (to .1) (placed-id id l (at .1))
-        (placed-id id m (to .1)) (once-l id (at .0)) (once-m id (at .0))))
+        (placed-id id m (to .1)) (a .once id (at .0)) (b .once id (at .0))))
 
     pub enrol-alike : (id count : ℕ) (seed password : List ℕ)
         → Alike (steps.enrol id count seed password (table P W l)) (steps.enrol id count seed password (table P W m))
     unfolding steps.enrol
     enrol-alike id count seed password =
-        settled-alike _ _ (enrol-check all-l all-m once-l once-m id count seed) _ _
+        checked-alike Checked.Refused _ _ (enrol-check a b id count seed) _ _
         (λ e.
-        let a = before l e in
-        let b = before m (sym (enrol-check all-l all-m once-l once-m id count seed) ∙ e) in
+        let here = before l e in
+        let there = before m (sym (enrol-check a b id count seed) ∙ e) in
         alike Checked.Good P W _ _
-        (put-same (newRoom id count seed password) (placeOf 0 l) (placeOf 0 m) (a .0) (b .0) (a .1) (b .1)
-        (λ i g o w. g (sym w ∙ a .2)) (λ i g o w. g (sym w ∙ b .2))))
+        (put-same (newRoom id count seed password) (placeOf 0 l) (placeOf 0 m) (here .0) (there .0) (here .1) (there .1)
+        (λ i g o w. g (sym w ∙ here .2)) (λ i g o w. g (sym w ∙ there .2))))
       where
         -- The first free room comes before any room that has the id, since none has it.
         before : (r : List Room) → enrolChecked id count seed (table P W r) ≡ Checked.Good

@@ -96,10 +96,10 @@ housed-run (call ∷ calls) s h = housed-run calls (after call s) (housed-after 
 alike-calls : (P : List Port) (W : Waiting) (l m : List Room) → Housed (table P W l) → Housed (table P W m) → Equal (table P W l) (table P W m) → (call : Call)
     → (answer call (table P W l) ≡ answer call (table P W m)) × Equal (after call (table P W l)) (after call (table P W m))
 alike-calls P W l m a b e (Call.Enrol id count seed password) =
-    let r = enrol-alike P W l m (e .accounts) (a .all) (b .all) (a .once) (b .once) id count seed password in
+    let r = enrol-alike P W l m (e .accounts) a b id count seed password in
     (ap checkedAnswer (r .answer), r .state)
 alike-calls P W l m a b e (Call.Remove id) =
-    let r = remove-alike P W l m (e .accounts) (a .all) (b .all) (a .once) (b .once) id in
+    let r = remove-alike P W l m (e .accounts) a b id in
     (ap checkedAnswer (r .answer), r .state)
 alike-calls P W l m a b e (Call.Join port id) =
     let r = join-alike P W l m (e .accounts) port id in
