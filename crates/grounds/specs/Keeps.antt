@@ -11,7 +11,7 @@ use lib.Seq.{getD-set-other}
 use Rattle.text.specs.Tests.{either, cases}
 use Rattle.line.specs.declared.Place.{Place}
 use Rattle.line.specs.Line as Line
-use Rattle.line.specs.Line.{Waiting, ofPort, ofAccount, first, others, without, tickedFront}
+use Rattle.line.specs.Line.{Waiting, ofPort, ofAccount, first, without, tickedFront}
 use Rattle.port.specs.declared.Port.{Port}
 use Rattle.accounts.specs.Rooms.{free, placeOf}
 use Rattle.table.specs.Table.{State, freshPort, fresh, isThere, accountOf, portOf, turnId, withRoom, withPort}
@@ -26,7 +26,7 @@ use Rattle.reached.specs.Laws.{housed-after, housed-fresh}
 use Rattle.reached.specs.Outcome as Outcome
 use Rattle.reached.specs.Made.{AccountGood, RoomGood, PortGood, Made}
 use Rattle.reached.specs.Outcome.{Outcome, outcome}
-use Rattle.grounds.specs.Standing.{each-others}
+use Rattle.grounds.specs.Standing.{each-stay}
 use Rattle.grounds.specs.Moved.{moved, standing-moved}
 use Rattle.grounds.specs.TurnComes.{standing-fresh}
 
@@ -36,9 +36,7 @@ module _ (P Q : Place → Type 0) (w : Waiting) where
   stay : (gone : Place → Bool) → ((place : Place) → P place → gone place ≡ false → Q place)
       → Each P (w .places) → Each Q (without gone w .places)
   unfolding without
-  stay gone f h =
-      each-weaker (λ (place : Place). P place × (gone place ≡ false)) Q (λ place g. f place (g .0) (g .1)) (others gone (w .places))
-      (each-others P gone (w .places) h)
+  stay gone f h = each-stay P Q gone f (w .places) h
 
   come : (port id : ℕ) → ((place : Place) → P place → Q place) → Q (record { port = port; id = id })
       → Each P (w .places) → Each Q (Line.joined port id w .places)
