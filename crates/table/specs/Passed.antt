@@ -1,7 +1,7 @@
--- What the checks of each call say where they found nothing wrong, and each call's two ways: a refusal, or what it does.
+-- What the checks of each call say where they found nothing wrong, and the two ways of most calls: a refusal, or what they do.
 use Prim.Native.Nat.{ℕ, _-_}
 use mathlib.Core.Path.{_≡_, refl}
-use mathlib.Core.Bool.{true, false, not, _&&_}
+use mathlib.Core.Bool.{true, not, _&&_}
 use mathlib.Core.List.{List, [], _∷_}
 use native.Mathlib.Omega.{arith}
 use lib.Dec.{eqb, leb, ltb}
@@ -26,7 +26,7 @@ both-passed Checked.Good rest e = (refl, e)
 both-passed (Checked.Refused why) rest e = let z : _≡_ {A = ℕ} 0 1 = cc in absurd (omega arith)
 
 -- The last check.
-pub last-passed : (check : Checked) → unless Checked.Refused check Checked.Good ≡ Checked.Good → check ≡ Checked.Good
+last-passed : (check : Checked) → unless Checked.Refused check Checked.Good ≡ Checked.Good → check ≡ Checked.Good
 last-passed check e = both-passed check Checked.Good e .0
 
 -- Five checks, one after the other.
@@ -74,10 +74,6 @@ module _ (id count : ℕ) (seed : List ℕ) (s : State) where
 -- ---- Remove
 
 module _ (id : ℕ) (s : State) where
-  pub remove-refused : isThere id s ≡ false → steps.remove id s ≡ steps.refused s Refusal.AccountMissing
-  unfolding steps.remove
-  remove-refused e = rw e
-
   pub remove-done : isThere id s ≡ true
       → steps.remove id s ≡ steps.done (withLine (removed id (s .line)) (withRoom (placeOf id (s .rooms)) free s))
   unfolding steps.remove
@@ -116,12 +112,6 @@ module _ (port id : ℕ) (s : State) where
 -- ---- Leave
 
 module _ (port : ℕ) (s : State) where
-  pub leave-passed : leaveChecked port s ≡ Checked.Good → (leb port 3 ≡ true) × (standsIn port (s .line) ≡ true)
-  unfolding leaveChecked
-  leave-passed e =
-      let a = both-passed _ _ e in
-      (must-good _ _ (a .0), must-good _ _ (last-passed _ (a .1)))
-
   pub leave-refused : (why : Refusal) → leaveChecked port s ≡ Checked.Refused why → steps.leave port s ≡ steps.refused s why
   unfolding steps.leave
   leave-refused why e = rw e
@@ -167,14 +157,6 @@ module _ (port : ℕ) (s : State) where
   unfolding steps.challenge
   challenge-done room e = rw e
 
-  pub reply-refused : (text : List ℕ) (why : Refusal) → turnChecked port s ≡ Checked.Refused why → steps.reply port text s ≡ steps.replyRefused s why
-  unfolding steps.reply
-  reply-refused text why e = rw e
-
-  pub reply-done : (text : List ℕ) → turnChecked port s ≡ Checked.Good → steps.reply port text s ≡ steps.replyRead port text s
-  unfolding steps.reply
-  reply-done text e = rw e
-
 module _ (port count : ℕ) (seed : List ℕ) (s : State) where
   pub renew-passed : renewChecked port count seed s ≡ Checked.Good → RenewPassed port count seed s
   unfolding renewChecked
@@ -183,13 +165,3 @@ module _ (port count : ℕ) (seed : List ℕ) (s : State) where
       let b = both-passed _ _ (a .1) in
       let c = both-passed _ _ (b .1) in
       record { turn = a .0; within = must-good _ _ (b .0); good = c .0; new = last-passed _ (c .1) }
-
-  pub renew-refused : (new text : List ℕ) (why : Refusal) → renewChecked port count seed s ≡ Checked.Refused why
-      → steps.renew port count seed new text s ≡ steps.replyRefused s why
-  unfolding steps.renew
-  renew-refused new text why e = rw e
-
-  pub renew-done : (new text : List ℕ) → renewChecked port count seed s ≡ Checked.Good
-      → steps.renew port count seed new text s ≡ steps.renewRead port count seed new text s
-  unfolding steps.renew
-  renew-done new text e = rw e
