@@ -1,24 +1,12 @@
--- The promises of the crates of counts, challenges and cards determine their results.
+-- The promises of `challenge` and `cards` determine their results.
 use mathlib.Core.Path.{sym, _∙_}
 use denote.Ref.{now}
-use Rattle.text.proofs.counts.read_count.Reads as read-count
-use Rattle.text.proofs.counts.width.Reads as width
-use Rattle.text.proofs.counts.put_count_and.Reads as put-count-and
 use Rattle.challenge.proofs.reading.read.Reads as read
 use Rattle.challenge.proofs.reading.seed_of.Reads as seed-of
 use Rattle.challenge.proofs.writing.write.Reads as write
 use Rattle.cards.proofs.write_card.Reads as write-card
 use Rattle.cards.proofs.printed.answer.Reads as answer
 use Rattle.determined.specs.Determined.{Answers, AnswersSeen, AnswersAndLent, both, left}
-
-pub read-count-determined : Answers read-count.Learnt
-read-count-determined k a y z e f p q = p ∙ sym q
-
-pub width-determined : Answers width.Learnt
-width-determined k a y z e f p q = p ∙ sym q
-
-pub put-count-and-determined : AnswersAndLent put-count-and.Learnt (λ k e. now (e .0))
-put-count-and-determined k a y z e f p q = both p q
 
 pub read-determined : Answers read.Learnt
 read-determined k a y z e f p q = p ∙ sym q

@@ -1,4 +1,4 @@
--- The promises of the functions that C calls determine their results, and so do those of the rows that they answer with.
+-- The promises of `panel`, the functions that C calls, determine their results.
 use mathlib.Core.Path.{sym, _∙_}
 use denote.Ref.{now}
 use Rattle.panel.proofs.lift_md5.Reads as lift-md5

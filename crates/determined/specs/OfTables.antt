@@ -1,6 +1,5 @@
--- The promises of `line`, `back`, `leaving`, `port`, `seeds`, `accounts`, `asked`, `controller`, `standing`, `enrolling`, `joining`,
--- `waiting`, `front`, `offers`, `replied` and `turns` determine their results: lines, accounts and tables as far as their bytes mean
--- something.
+-- The promises of `line`, `port`, `accounts`, `table`, `login` and `turns` determine their results: lines, accounts and tables as far as their
+-- bytes mean something.
 use mathlib.Core.Path.{_≡_, sym, _∙_}
 use denote.Ref.{now}
 use Rattle.line.proofs.fresh.Reads as line-fresh
@@ -23,12 +22,12 @@ use Rattle.table.proofs.held.put.Reads as put
 use Rattle.accounts.proofs.values.propose.Reads as propose
 use Rattle.accounts.proofs.lowered.write_challenge.Reads as write-challenge
 use Rattle.accounts.proofs.lowered.lower.Reads as lower
-use Rattle.table.proofs.fresh.Reads as controller-fresh
+use Rattle.table.proofs.fresh.Reads as table-fresh
 use Rattle.login.proofs.enrolling.enrol.Reads as enrol
-use Rattle.login.proofs.enrolling.remove.Reads as enrolling-remove
-use Rattle.login.proofs.joining.join.Reads as joining-join
-use Rattle.login.proofs.leaving.leave.Reads as waiting-leave
-use Rattle.login.proofs.ticking.tick.Reads as waiting-tick
+use Rattle.login.proofs.enrolling.remove.Reads as remove
+use Rattle.login.proofs.joining.join.Reads as join
+use Rattle.login.proofs.leaving.leave.Reads as leave
+use Rattle.login.proofs.ticking.tick.Reads as tick
 use Rattle.turns.proofs.challenge.Reads as challenge
 use Rattle.turns.proofs.reply.Reads as reply
 use Rattle.turns.proofs.renew.Reads as renew
@@ -105,23 +104,23 @@ pub lower-determined : AnswersSeen lower.Learnt (λ k y. roomOf y)
 lower-determined k a y z e f p q = p ∙ sym q
 
 -- A table is seen by its view, beside the answer.
-pub controller-fresh-determined : AnswersSeen controller-fresh.Learnt (λ k y. view y)
-controller-fresh-determined k a y z e f p q = p ∙ sym q
+pub table-fresh-determined : AnswersSeen table-fresh.Learnt (λ k y. view y)
+table-fresh-determined k a y z e f p q = p ∙ sym q
 
 pub enrol-determined : AnswersSeen enrol.Learnt (λ k y. settled y)
 enrol-determined k a y z e f p q = p ∙ sym q
 
-pub enrolling-remove-determined : AnswersSeen enrolling-remove.Learnt (λ k y. settled y)
-enrolling-remove-determined k a y z e f p q = p ∙ sym q
+pub remove-determined : AnswersSeen remove.Learnt (λ k y. settled y)
+remove-determined k a y z e f p q = p ∙ sym q
 
-pub joining-join-determined : AnswersSeen joining-join.Learnt (λ k y. settled y)
-joining-join-determined k a y z e f p q = p ∙ sym q
+pub join-determined : AnswersSeen join.Learnt (λ k y. settled y)
+join-determined k a y z e f p q = p ∙ sym q
 
-pub waiting-leave-determined : AnswersSeen waiting-leave.Learnt (λ k y. settled y)
-waiting-leave-determined k a y z e f p q = p ∙ sym q
+pub leave-determined : AnswersSeen leave.Learnt (λ k y. settled y)
+leave-determined k a y z e f p q = p ∙ sym q
 
-pub waiting-tick-determined : AnswersSeen waiting-tick.Learnt (λ k y. view y)
-waiting-tick-determined k a y z e f p q = p ∙ sym q
+pub tick-determined : AnswersSeen tick.Learnt (λ k y. view y)
+tick-determined k a y z e f p q = p ∙ sym q
 
 pub challenge-determined : AnswersAndLent challenge.Learnt (λ k e. now (e .1 .1 .0))
 challenge-determined k a y z e f p q = left _ _ p q

@@ -31,7 +31,7 @@ use Rattle.table.specs.Steps as Steps
 use Rattle.accounts.specs.Accounts.{lowered}
 use Rattle.table.specs.Steps.{turnChecked, challengeFor, challenge}
 use Rattle.reached.specs.InTurn.{HasTurn}
-use Rattle.grounds.specs.Outcome.{turn-good, turn-holder}
+use Rattle.reached.specs.Outcome.{turn-good, turn-holder}
 use Rattle.reached.specs.Day.{Accepts, Day}
 use Rattle.reached.specs.Made.{isKept, Made}
 use Rattle.grounds.specs.Keeps.{account-good}

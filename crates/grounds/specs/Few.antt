@@ -12,7 +12,7 @@ use Rattle.line.specs.declared.Place.{Place}
 use Rattle.line.specs.Line.{Waiting, ofPort, some, standsIn, others}
 use Rattle.reached.specs.Each.{Each, each-weaker}
 use Rattle.reached.specs.Made.{Once, Standing}
-use Rattle.grounds.specs.Standing.{each-others, once-others}
+use Rattle.grounds.specs.Standing.{each-stay, once-others}
 
 -- Where nobody leaves, all stay.
 all-stay : (gone : Place → Bool) (l : List Place) → some gone l ≡ false → others gone l ≡ l
@@ -42,15 +42,12 @@ few : (n : ℕ) (l : List Place) → Each (λ (place : Place). place .port < n) 
 few zero [] h o = zero-le
 few zero (x ∷ xs) h o = absurd (not-suc-le-zero (h .0))
 few (suc n) l h o =
-    let rest = each-weaker (λ (place : Place). (place .port < suc n) × (ofPort n place ≡ false)) (λ (place : Place). place .port < n)
-    (λ place g. below place g) (others (ofPort n) l) (each-others (λ (place : Place). place .port < suc n) (ofPort n) l h) in
+    let rest = each-stay (λ (place : Place). place .port < suc n) (λ (place : Place). place .port < n) (ofPort n) below l h in
     let shorter = few n (others (ofPort n) l) rest (once-others (ofPort n) l o) in
     omega (arith, all-but-one n l o)
   where
-    below : (place : Place) → (place .port < suc n) × (ofPort n place ≡ false) → place .port < n
-    below place g =
-        let other = eqb-false (place .port) n (g .1) in
-        omega (arith, other, g .0)
+    below : (place : Place) → place .port < suc n → ofPort n place ≡ false → place .port < n
+    below place h g = omega (arith, eqb-false (place .port) n g)
 
 -- "Four ports": at most four in line, and three beside a port that isn't.
 pub at-most-four : (w : Waiting) → Standing w → length (w .places) ≤ 4

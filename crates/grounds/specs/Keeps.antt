@@ -1,30 +1,32 @@
 -- Each call keeps what holds of tables that calls make.
-use Prim.Native.Nat.{ℕ, zero, suc, _+_, _-_}
+use Prim.Native.Nat.{ℕ, _+_, _-_}
 use native.Mathlib.Omega.{arith}
 use mathlib.Core.Path.{_≡_, refl, sym, ap, _∙_, subst}
-use mathlib.Core.Bool.{Bool, true, false, true≢false, cond}
+use mathlib.Core.Bool.{Bool, true, false, true≢false}
 use mathlib.Core.List.{List, [], _∷_}
 use borrow.Author.Tests.{eqb-true, eqb-false, leb-false}
 use lib.Dec.{eqb, leb, ltb}
-use lib.ListN.{length, getD, set, length-set, replicate, length-map, List·getD-map}
+use lib.ListN.{length, getD, set, length-set, length-map, List·getD-map}
 use lib.Seq.{getD-set-other}
 use Rattle.text.specs.Tests.{either, cases}
 use Rattle.line.specs.declared.Place.{Place}
 use Rattle.line.specs.Line as Line
-use Rattle.line.specs.Line.{Waiting, ofPort, ofAccount, first, others, without, tickedFront}
+use Rattle.line.specs.Line.{Waiting, ofPort, ofAccount, first, without, tickedFront}
 use Rattle.port.specs.declared.Port.{Port}
-use Rattle.accounts.specs.Rooms.{Room, free, placeOf}
+use Rattle.accounts.specs.Rooms.{free, placeOf}
 use Rattle.table.specs.Table.{State, freshPort, fresh, isThere, accountOf, portOf, turnId, withRoom, withPort}
 use Rattle.table.specs.Steps as Steps
 use Rattle.port.specs.Port.{wrongly, rightly, cooled}
 use Rattle.reached.specs.Calls.{Call, after, run}
 use Rattle.reached.specs.InTurn.{Reached}
 use Rattle.reached.specs.Each.{Each, each-set, each-get, each-append, each-replicate, each-map, each-weaker}
-use Rattle.grounds.specs.RoomsChanged.{holder-id, there-parts, other-there, same-there, not-there}
-use Rattle.grounds.specs.Outcome as Outcome
-use Rattle.reached.specs.Made.{AccountGood, Apart, RoomGood, PortGood, Made}
-use Rattle.grounds.specs.Outcome.{Outcome, outcome}
-use Rattle.grounds.specs.Standing.{each-others}
+use Rattle.reached.specs.RoomsChanged.{there-parts, other-there, same-there}
+use Rattle.reached.specs.RoomsFound.{placed-id, once-apart, apart-once}
+use Rattle.reached.specs.Laws.{housed-after, housed-fresh}
+use Rattle.reached.specs.Outcome as Outcome
+use Rattle.reached.specs.Made.{AccountGood, RoomGood, PortGood, Made}
+use Rattle.reached.specs.Outcome.{Outcome, outcome}
+use Rattle.grounds.specs.Standing.{each-stay}
 use Rattle.grounds.specs.Moved.{moved, standing-moved}
 use Rattle.grounds.specs.TurnComes.{standing-fresh}
 
@@ -34,9 +36,7 @@ module _ (P Q : Place → Type 0) (w : Waiting) where
   stay : (gone : Place → Bool) → ((place : Place) → P place → gone place ≡ false → Q place)
       → Each P (w .places) → Each Q (without gone w .places)
   unfolding without
-  stay gone f h =
-      each-weaker (λ (place : Place). P place × (gone place ≡ false)) Q (λ place g. f place (g .0) (g .1)) (others gone (w .places))
-      (each-others P gone (w .places) h)
+  stay gone f h = each-stay P Q gone f (w .places) h
 
   come : (port id : ℕ) → ((place : Place) → P place → Q place) → Q (record { port = port; id = id })
       → Each P (w .places) → Each Q (Line.joined port id w .places)
@@ -64,7 +64,7 @@ There s place = isThere (place .id) s ≡ true
 there-after : (c : Call) (s : State) {s′ : State} → Outcome c s s′ → Each (There s) (s .line .places) → Each (There s′) (s′ .line .places)
 unfolding There Steps.tick
 there-after c s (Outcome.nothing z) h = h
-there-after c s (Outcome.enrolled z room a n t) h =
+there-after c s (Outcome.enrolled z room a n t f) h =
     each-weaker (There s) (There (withRoom (placeOf 0 (s .rooms)) room s))
     (λ place k. other-there (place .id) 0 (s .rooms) room (there-parts (place .id) (s .rooms) k .0)
     (λ e. true≢false (sym k ∙ ap (λ (j : ℕ). isThere j s) (sym e) ∙ t)) k)
@@ -106,7 +106,7 @@ unshut-others s port changed place k g =
 unshut-after : (c : Call) (s : State) {s′ : State} → Outcome c s s′ → Each (Unshut s) (s .line .places) → Each (Unshut s′) (s′ .line .places)
 unfolding Unshut Steps.tick
 unshut-after c s (Outcome.nothing z) h = h
-unshut-after c s (Outcome.enrolled z room a n t) h = h
+unshut-after c s (Outcome.enrolled z room a n t f) h = h
 unshut-after c s (Outcome.removed z id t n) h = stay (Unshut s) (Unshut s) (s .line) (ofAccount id) (λ place k g. k) h
 unshut-after c s (Outcome.joined z port id k t n o b) h = come (Unshut s) (Unshut s) (s .line) port id (λ place g. g) o h
 unshut-after c s (Outcome.left z port n) h = stay (Unshut s) (Unshut s) (s .line) (ofPort port) (λ place k g. k) h
@@ -122,66 +122,17 @@ unshut-after c s (Outcome.ticked z) h =
 
 -- ---- the rooms
 
--- A room may be put where the first one with the id k stands: it is free, keeps that id, or has an id that is new.
-data Fits (k : ℕ) (rooms : List Room) (room : Room) : Type 0 where
-  freed : room .id ≡ 0 → Fits k rooms room
-  keeps : room .id ≡ k → Fits k rooms room
-  new : Each (λ (other : Room). other .id ≡ room .id → ⊥) rooms → Fits k rooms room
-
-fits-tail : (k : ℕ) (r : Room) (rs : List Room) (room : Room) → Fits k (r ∷ rs) room → Fits k rs room
-fits-tail k r rs room (Fits.freed e) = Fits.freed e
-fits-tail k r rs room (Fits.keeps e) = Fits.keeps e
-fits-tail k r rs room (Fits.new n) = Fits.new (n .1)
-
-apart-set : (k : ℕ) (rooms : List Room) (room : Room) → Apart rooms → Fits k rooms room → Apart (set rooms (placeOf k rooms) room)
-unfolding placeOf
-apart-set k [] room h f = tt
-apart-set k (r ∷ rs) room h f = go (eqb (r .id) k) refl (apart-set k rs room (h .1) (fits-tail k r rs room f)) f
-  where
-    unlike : r .id ≡ k → Fits k (r ∷ rs) room → (room .id ≡ 0 → ⊥) → Each (λ (other : Room). other .id ≡ room .id → ⊥) rs
-    unlike e (Fits.freed z) n = absurd (n z)
-    unlike e (Fits.keeps i) n =
-        let same : r .id ≡ room .id = e ∙ sym i in
-        subst (λ (j : ℕ). Each (λ (other : Room). other .id ≡ j → ⊥) rs) same (h .0 (λ z. n (sym same ∙ z)))
-    unlike e (Fits.new d) n = d .1
-
-    other : eqb (r .id) k ≡ false → Fits k (r ∷ rs) room → (r .id ≡ 0 → ⊥) → room .id ≡ r .id → ⊥
-    other e (Fits.freed z) n s = n (sym s ∙ z)
-    other e (Fits.keeps i) n s = eqb-false (r .id) k e (sym s ∙ i)
-    other e (Fits.new d) n s = d .0 (sym s)
-
-    go : (t : Bool) → eqb (r .id) k ≡ t → Apart (set rs (placeOf k rs) room) → Fits k (r ∷ rs) room
-        → Apart (set (r ∷ rs) (cond t 0 (suc (placeOf k rs))) room)
-    go true e ih f = (unlike e′ f, h .1)
-      where
-        e′ : r .id ≡ k
-        e′ = eqb-true (r .id) k e
-    go false e ih f =
-        (λ n. each-set (λ (o : Room). o .id ≡ r .id → ⊥) rs (placeOf k rs) room (h .0 n) (other e f n), ih)
-
-apart-after : (c : Call) (s : State) {s′ : State} → Outcome c s s′ → Apart (s .rooms) → Apart (s′ .rooms)
-unfolding Steps.tick
-apart-after c s (Outcome.nothing z) h = h
-apart-after c s (Outcome.enrolled z room a n t) h =
-    apart-set 0 (s .rooms) room h (Fits.new (not-there (room .id) (s .rooms) n t))
-apart-after c s (Outcome.removed z id t n) h = apart-set id (s .rooms) free h (Fits.freed refl)
-apart-after c s (Outcome.joined z port id k t n o b) h = h
-apart-after c s (Outcome.left z port n) h = h
-apart-after c s (Outcome.accepted z port next g n i a) h = apart-set (turnId s) (s .rooms) next h (Fits.keeps i)
-apart-after c s (Outcome.rejected z port g n) h = h
-apart-after c s (Outcome.ticked z) h = h
-
 -- The account with an id that is there is a good one.
 pub account-good : (id : ℕ) (s : State) → isThere id s ≡ true → Each RoomGood (s .rooms) → AccountGood (accountOf id s)
 account-good id s t h =
     let parts = there-parts id (s .rooms) t in
     each-get RoomGood (s .rooms) (placeOf id (s .rooms)) free h (λ n. absurd (n refl))
-    (λ z. parts .0 (sym (holder-id id (s .rooms) (parts .1)) ∙ z))
+    (λ z. parts .0 (sym (placed-id id (s .rooms) (parts .1)) ∙ z))
 
 good-after : (c : Call) (s : State) {s′ : State} → Outcome c s s′ → Each RoomGood (s .rooms) → Each RoomGood (s′ .rooms)
 unfolding Steps.tick
 good-after c s (Outcome.nothing z) h = h
-good-after c s (Outcome.enrolled z room a n t) h = each-set RoomGood (s .rooms) (placeOf 0 (s .rooms)) room h (λ m. a)
+good-after c s (Outcome.enrolled z room a n t f) h = each-set RoomGood (s .rooms) (placeOf 0 (s .rooms)) room h (λ m. a)
 good-after c s (Outcome.removed z id t n) h = each-set RoomGood (s .rooms) (placeOf id (s .rooms)) free h (λ m. absurd (m refl))
 good-after c s (Outcome.joined z port id k t n o b) h = h
 good-after c s (Outcome.left z port n) h = h
@@ -190,23 +141,12 @@ good-after c s (Outcome.accepted z port next g n i a) h =
 good-after c s (Outcome.rejected z port g n) h = h
 good-after c s (Outcome.ticked z) h = h
 
-rooms-after : (c : Call) (s : State) {s′ : State} → Outcome c s s′ → length (s′ .rooms) ≡ length (s .rooms)
-unfolding Steps.tick
-rooms-after c s (Outcome.nothing z) = refl
-rooms-after c s (Outcome.enrolled z room a n t) = length-set (s .rooms) (placeOf 0 (s .rooms)) room
-rooms-after c s (Outcome.removed z id t n) = length-set (s .rooms) (placeOf id (s .rooms)) free
-rooms-after c s (Outcome.joined z port id k t n o b) = refl
-rooms-after c s (Outcome.left z port n) = refl
-rooms-after c s (Outcome.accepted z port next g n i a) = length-set (s .rooms) (placeOf (turnId s) (s .rooms)) next
-rooms-after c s (Outcome.rejected z port g n) = refl
-rooms-after c s (Outcome.ticked z) = refl
-
 -- ---- the ports' records
 
 runs-after : (c : Call) (s : State) {s′ : State} → Outcome c s s′ → Each PortGood (s .ports) → Each PortGood (s′ .ports)
 unfolding Steps.tick
 runs-after c s (Outcome.nothing z) h = h
-runs-after c s (Outcome.enrolled z room a n t) h = h
+runs-after c s (Outcome.enrolled z room a n t f) h = h
 runs-after c s (Outcome.removed z id t n) h = h
 runs-after c s (Outcome.joined z port id k t n o b) h = h
 runs-after c s (Outcome.left z port n) h = h
@@ -224,7 +164,7 @@ runs-after c s (Outcome.ticked z) h =
 ports-after : (c : Call) (s : State) {s′ : State} → Outcome c s s′ → length (s′ .ports) ≡ length (s .ports)
 unfolding Steps.tick
 ports-after c s (Outcome.nothing z) = refl
-ports-after c s (Outcome.enrolled z room a n t) = refl
+ports-after c s (Outcome.enrolled z room a n t f) = refl
 ports-after c s (Outcome.removed z id t n) = refl
 ports-after c s (Outcome.joined z port id k t n o b) = refl
 ports-after c s (Outcome.left z port n) = refl
@@ -238,14 +178,15 @@ pub made-after : (c : Call) (s : State) → Made s → Made (after c s)
 unfolding There Unshut
 made-after c s m =
     let did = outcome c s in
+    let housed = housed-after c s (record { all = m .room-count; once = apart-once (s .rooms) (m .apart) }) in
     record {
       standing = standing-moved c (s .line) (moved c s did) (m .standing);
       there = there-after c s did (m .there);
       unshut = unshut-after c s did (m .unshut);
-      room-count = rooms-after c s did ∙ m .room-count;
+      room-count = housed .all;
       port-count = ports-after c s did ∙ m .port-count;
       good = good-after c s did (m .good);
-      apart = apart-after c s did (m .apart);
+      apart = once-apart (after c s .rooms) (housed .once);
       runs = runs-after c s did (m .runs);
     }
 
@@ -253,10 +194,6 @@ pub made-run : (calls : List Call) (s : State) → Made s → Made (run calls s)
 unfolding run
 made-run [] s m = m
 made-run (c ∷ cs) s m = made-run cs (after c s) (made-after c s m)
-
-apart-free : (n : ℕ) → Apart (replicate n free)
-apart-free zero = tt
-apart-free (suc n) = (λ f. absurd (f refl), apart-free n)
 
 pub made-fresh : Made fresh
 made-fresh =
@@ -267,7 +204,7 @@ made-fresh =
       room-count = refl;
       port-count = refl;
       good = each-replicate RoomGood 32 free (λ n. absurd (n refl));
-      apart = apart-free 32;
+      apart = once-apart (fresh .rooms) (housed-fresh .once);
       runs = each-replicate PortGood 4 freshPort (omega arith, omega arith);
     }
 

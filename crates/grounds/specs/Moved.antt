@@ -10,8 +10,8 @@ use Rattle.table.specs.Table.{State}
 use Rattle.table.specs.Steps as Steps
 use Rattle.reached.specs.Calls.{Call}
 use Rattle.reached.specs.InTurn.{tickOf, quiet}
-use Rattle.grounds.specs.Outcome as Outcome
-use Rattle.grounds.specs.Outcome.{Outcome, NotBy, NotFor}
+use Rattle.reached.specs.Outcome as Outcome
+use Rattle.reached.specs.Outcome.{Outcome, NotBy, NotFor}
 use Rattle.reached.specs.Made.{Standing}
 use Rattle.grounds.specs.Standing.{standing-without, standing-joined, standing-ticked}
 
@@ -34,7 +34,7 @@ account-spared c id n p i q = ne-eqb i id (λ e. eqb-false id i (n p i q) (sym e
 pub moved : (c : Call) (s : State) {s′ : State} → Outcome c s s′ → Moved c (s .line) (s′ .line)
 unfolding Steps.tick
 moved c s (Outcome.nothing z) = Moved.stood z
-moved c s (Outcome.enrolled z room a n t) = Moved.stood z
+moved c s (Outcome.enrolled z room a n t f) = Moved.stood z
 moved c s (Outcome.removed z id t n) = Moved.gone z (ofAccount id) (account-spared c id n)
 moved c s (Outcome.joined z port id k t n o b) = Moved.come z port id k n b
 moved c s (Outcome.left z port n) = Moved.gone z (ofPort port) (port-spared c port n)

@@ -12,14 +12,14 @@ use Rattle.line.specs.declared.Place.{Place}
 use Rattle.line.specs.Line as Line
 use Rattle.line.specs.Line.{Waiting, ofPort, ofAccount, some, standsIn, first, others, without, tickedFront}
 use Rattle.accounts.specs.Rooms.{free}
-use Rattle.table.specs.Table.{State, isThere, accountOf, hasTurn, turnId}
+use Rattle.table.specs.Table.{State, isThere, accountOf, isFront, idOf, hasTurn, turnId}
 use Rattle.table.specs.Steps as Steps
 use Rattle.reached.specs.Calls.{Call, after, run}
 use Rattle.reached.specs.InTurn.{quiet, HasTurn}
 use Rattle.reached.specs.Each.{Each}
-use Rattle.grounds.specs.RoomsChanged.{there-parts, other-same}
-use Rattle.grounds.specs.Outcome as Outcome
-use Rattle.grounds.specs.Outcome.{Outcome, outcome}
+use Rattle.reached.specs.RoomsChanged.{there-parts, other-same}
+use Rattle.reached.specs.Outcome as Outcome
+use Rattle.reached.specs.Outcome.{Outcome, outcome}
 use Rattle.grounds.specs.Standing.{none-others, none-append}
 use Rattle.grounds.specs.Moved.{Moved, moved}
 use Rattle.grounds.specs.WaitFalls.{isPlace, leads, place-is}
@@ -33,9 +33,7 @@ use Rattle.grounds.specs.Keeps.{made-after, made-run}
 pub turn-unique : (p q : ℕ) (s : State) → hasTurn p s ≡ true → hasTurn q s ≡ true → p ≡ q
 turn-unique p q s = go (s .line .places)
   where
-    go : (l : List Place)
-        → hasTurn p (record { rooms = s .rooms; ports = s .ports; line = record { places = l; turn = s .line .turn } }) ≡ true
-        → hasTurn q (record { rooms = s .rooms; ports = s .ports; line = record { places = l; turn = s .line .turn } }) ≡ true → p ≡ q
+    go : (l : List Place) → isFront p (first l) ≡ true → isFront q (first l) ≡ true → p ≡ q
     go [] e f = absurd (true≢false (sym e))
     go (x ∷ xs) e f = sym (eqb-true (x .port) p e) ∙ eqb-true (x .port) q f
 
@@ -45,8 +43,7 @@ unfolding some
 turn-there p i s m t = go (s .line .places) (m .there) (m .standing .known) (t .front) (t .account)
   where
     go : (l : List Place) → Each (λ (place : Place). isThere (place .id) s ≡ true) l → Each (λ (place : Place). place .port ≤ 3) l
-        → hasTurn p (record { rooms = s .rooms; ports = s .ports; line = record { places = l; turn = s .line .turn } }) ≡ true
-        → turnId (record { rooms = s .rooms; ports = s .ports; line = record { places = l; turn = s .line .turn } }) ≡ i
+        → isFront p (first l) ≡ true → idOf (first l) ≡ i
         → (isThere i s ≡ true) × (p ≤ 3) × (some (ofPort p) l ≡ true)
     go [] h k e f = absurd (true≢false (sym e))
     go (x ∷ xs) h k e f =
@@ -58,7 +55,7 @@ account-kept : (c : Call) (s : State) (p i : ℕ) {s′ : State} → Outcome c s
     → accountOf i s′ ≡ accountOf i s
 unfolding Steps.tick
 account-kept c s p i (Outcome.nothing z) h t q = refl
-account-kept c s p i (Outcome.enrolled z room a n d) h t q =
+account-kept c s p i (Outcome.enrolled z room a n d f) h t q =
     other-same i 0 (s .rooms) room (there-parts i (s .rooms) h .0)
     (λ e. true≢false (sym h ∙ ap (λ (j : ℕ). isThere j s) (sym e) ∙ d))
 account-kept c s p i (Outcome.removed z id d n) h t q =

@@ -63,7 +63,7 @@ use Rattle.reached.specs.Each.{Each}
 use Rattle.grounds.specs.Listed.{isIn, refusalsOf, Within, ReadWithin, ChallengeWithin, WriteWithin}
 use Rattle.reached.specs.Made.{Made}
 use Rattle.refusal.specs.Laws.{must-good}
-use Rattle.grounds.specs.Outcome.{turn-good}
+use Rattle.reached.specs.Outcome.{turn-good}
 use Rattle.grounds.specs.Owned.{turn-there}
 use Rattle.grounds.specs.Keeps.{account-good}
 use Rattle.grounds.specs.Answering.{kept-seed, seed-checked}

@@ -20,8 +20,8 @@ use Rattle.table.specs.Steps as Steps
 use Rattle.accounts.specs.Accounts.{lowered}
 use Rattle.table.specs.Steps.{replyRefused, turnChecked, offered, read, replyRead, reply}
 use Rattle.reached.specs.Day.{SteppedDown}
-use Rattle.grounds.specs.RoomsChanged.{there-parts, same-changed}
-use Rattle.grounds.specs.Outcome.{TurnGood, turn-good, turn-holder}
+use Rattle.reached.specs.RoomsChanged.{there-parts, same-changed}
+use Rattle.reached.specs.Outcome.{TurnGood, turn-good, turn-holder}
 
 -- ---- from one step
 

@@ -11,21 +11,20 @@ use Rattle.text.specs.Tests.{either}
 use Rattle.line.specs.declared.Place.{Place}
 use Rattle.line.specs.Line.{Waiting, ofPort, some, standsIn, first, start, turnJoined, joined, others, turnWithout, without, tickedFront, ticked}
 use Rattle.reached.specs.Made.{Once, TurnRight, Standing}
-use Rattle.reached.specs.Each.{Each, each-append, each-weaker}
+use Rattle.reached.specs.Each.{Each, each-append}
 
 -- ---- those that leave
 
--- What holds of each place holds of those that stay, and none of them is one that leaves.
-pub each-others : (P : Place → Type 0) (gone : Place → Bool) (l : List Place) → Each P l
-    → Each (λ (place : Place). P place × (gone place ≡ false)) (others gone l)
+-- What follows for each place that isn't one that leaves holds of those that stay.
+pub each-stay : (P Q : Place → Type 0) (gone : Place → Bool) → ((place : Place) → P place → gone place ≡ false → Q place)
+    → (l : List Place) → Each P l → Each Q (others gone l)
 unfolding others
-each-others P gone [] h = tt
-each-others P gone (x ∷ xs) h = go (gone x) refl (each-others P gone xs (h .1))
+each-stay P Q gone f [] h = tt
+each-stay P Q gone f (x ∷ xs) h = go (gone x) refl (each-stay P Q gone f xs (h .1))
   where
-    go : (t : Bool) → gone x ≡ t → Each (λ (place : Place). P place × (gone place ≡ false)) (others gone xs)
-        → Each (λ (place : Place). P place × (gone place ≡ false)) (cond t (others gone xs) (x ∷ others gone xs))
+    go : (t : Bool) → gone x ≡ t → Each Q (others gone xs) → Each Q (cond t (others gone xs) (x ∷ others gone xs))
     go true e ih = ih
-    go false e ih = ((h .0, e), ih)
+    go false e ih = (f x (h .0) e, ih)
 
 pub none-others : (test gone : Place → Bool) (l : List Place) → some test l ≡ false → some test (others gone l) ≡ false
 unfolding some others
@@ -65,15 +64,10 @@ pub standing-without : (gone : Place → Bool) (w : Waiting) → Standing w → 
 unfolding without
 standing-without gone w h =
     record {
-      known = each-kept (w .places) (h .known);
+      known = each-stay (λ (place : Place). place .port ≤ 3) (λ (place : Place). place .port ≤ 3) gone (λ place k g. k) (w .places) (h .known);
       once = once-others gone (w .places) (h .once);
       turn = turn-without gone (w .places) (w .turn) (h .turn);
     }
-  where
-    each-kept : (l : List Place) → Each (λ (place : Place). place .port ≤ 3) l → Each (λ (place : Place). place .port ≤ 3) (others gone l)
-    each-kept l k =
-        each-weaker (λ (place : Place). (place .port ≤ 3) × (gone place ≡ false)) (λ (place : Place). place .port ≤ 3)
-        (λ place g. g .0) (others gone l) (each-others (λ (place : Place). place .port ≤ 3) gone l k)
 
 -- ---- one that comes
 

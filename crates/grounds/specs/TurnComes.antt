@@ -8,14 +8,14 @@ use borrow.Author.Tests.{eqb-true}
 use lib.Dec.{eqb}
 use Rattle.text.specs.Tests.{every, cases, both}
 use Rattle.line.specs.declared.Place.{Place}
-use Rattle.line.specs.Line.{ofPort, ofAccount, some, joined}
+use Rattle.line.specs.Line.{ofPort, ofAccount, some, first, joined}
 use Rattle.refusal.specs.declared.Checked.{Checked}
 use Rattle.refusal.specs.Checks.{unless}
-use Rattle.table.specs.Table.{State, fresh, hasTurn, turnId, withLine}
+use Rattle.table.specs.Table.{State, fresh, isFront, idOf, hasTurn, turnId, withLine}
 use Rattle.table.specs.Steps.{refused, done, joinChecked, join}
 use Rattle.reached.specs.Calls.{Call, after, run}
 use Rattle.reached.specs.InTurn.{Reached, tickOf, ticks, quiet, quietMeanwhile, HasTurn, TurnBegins}
-use Rattle.grounds.specs.Outcome.{outcome, join-good}
+use Rattle.reached.specs.Outcome.{outcome, join-good}
 use Rattle.reached.specs.Made.{TurnRight, Standing}
 use Rattle.grounds.specs.Standing.{standing-joined}
 use Rattle.grounds.specs.Moved.{moved, standing-moved}
@@ -40,9 +40,7 @@ standing-fresh = record { known = tt; once = tt; turn = refl }
 pub leads-turn : (p i : ℕ) (s : State) → leads (isPlace p i) (s .line .places) ≡ true → HasTurn p i s
 leads-turn p i s e = let facts = go (s .line .places) e in record { front = facts .0; account = facts .1 }
   where
-    go : (l : List Place) → leads (isPlace p i) l ≡ true
-        → (hasTurn p (record { rooms = s .rooms; ports = s .ports; line = record { places = l; turn = s .line .turn } }) ≡ true)
-        × (turnId (record { rooms = s .rooms; ports = s .ports; line = record { places = l; turn = s .line .turn } }) ≡ i)
+    go : (l : List Place) → leads (isPlace p i) l ≡ true → (isFront p (first l) ≡ true) × (idOf (first l) ≡ i)
     go [] e = absurd (true≢false (sym e))
     go (x ∷ xs) e =
         let halves = both (ofPort p x) (ofAccount i x) e in
@@ -51,10 +49,7 @@ leads-turn p i s e = let facts = go (s .line .places) e in record { front = fact
 pub turn-leads : (p i : ℕ) (s : State) → (hasTurn p s && eqb (turnId s) i) ≡ leads (isPlace p i) (s .line .places)
 turn-leads p i s = go (s .line .places)
   where
-    go : (l : List Place)
-        → (hasTurn p (record { rooms = s .rooms; ports = s .ports; line = record { places = l; turn = s .line .turn } })
-        && eqb (turnId (record { rooms = s .rooms; ports = s .ports; line = record { places = l; turn = s .line .turn } })) i)
-        ≡ leads (isPlace p i) l
+    go : (l : List Place) → (isFront p (first l) && eqb (idOf (first l)) i) ≡ leads (isPlace p i) l
     go [] = refl
     go (x ∷ xs) = refl
 

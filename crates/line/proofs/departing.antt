@@ -1,2 +1,2 @@
--- What the proofs of `leaving`'s functions share.
+-- What the proofs of `departing`'s functions share.
 pub mod Staying

@@ -12,7 +12,8 @@ use lib.ListN.{length, getD, set}
 use Rattle.refusal.specs.declared.Refusal.{Refusal}
 use Rattle.refusal.specs.declared.Checked.{Checked}
 use Rattle.refusal.specs.declared.Reading.{Reading}
-use Rattle.refusal.specs.Checks.{must}
+use Rattle.refusal.specs.Checks.{must, unless}
+use Rattle.refusal.specs.Laws.{must-good}
 use Rattle.text.specs.Kinds.{lowerOf}
 use Rattle.text.specs.Tests.{both, same}
 use Rattle.password.specs.PhraseAndSeed.{seedChecked}
@@ -29,26 +30,9 @@ use Rattle.accounts.specs.Accounts.{inOrder, countWithin, newRoom, lowered}
 use Rattle.table.specs.TableChecks.{idGiven, portKnown, notInLine, portOpen, inLine, inFront}
 use Rattle.table.specs.Steps as steps
 use Rattle.table.specs.Steps.{enrolChecked, joinChecked, leaveChecked, turnChecked, renewChecked}
-use Rattle.table.specs.Passed.{
-  enrol-passed,
-  enrol-refused,
-  enrol-done,
-  remove-refused,
-  remove-done,
-  join-refused,
-  join-done,
-  leave-refused,
-  leave-done,
-  turn-passed,
-  reply-refused,
-  reply-done,
-  renew-passed,
-  renew-refused,
-  renew-done,
-  challenge-refused,
-  challenge-done,
-}
-use Rattle.reached.specs.Equal.{accountBy, SameAccounts, Equal, Alike, times}
+use Rattle.table.specs.Passed.{enrol-passed, turn-passed, renew-passed, challenge-refused, challenge-done}
+use Rattle.reached.specs.Equal.{accountBy, SameAccounts, Equal, Alike, times, Housed}
+use Rattle.reached.specs.RoomsChanged.{there-parts}
 use Rattle.reached.specs.RoomsFound.{holds-times, placed-id, account-by, found-none, set-other, set-here, times-set, accounts-free, same-count}
 
 isSome : Option Room → Bool
@@ -96,12 +80,11 @@ module _ (P : List Port) (W : Waiting) (l m : List Room) (h : SameAccounts l m) 
 
   -- ---- the checks
 
-  module _ (all-l : length l ≡ 32) (all-m : length m ≡ 32) (once-l : (id : ℕ) → (id ≡ 0 → ⊥)
-      → times id l ≤ 1) (once-m : (id : ℕ) → (id ≡ 0 → ⊥) → times id m ≤ 1) where
+  module _ (a : Housed (table P W l)) (b : Housed (table P W m)) where
     -- "53 is given exactly when 32 accounts are there", so in both or in neither.
     room-same : holds 0 l ≡ holds 0 m
     room-same =
-        let free-same : times 0 l ≡ times 0 m = omega (arith, accounts-free l, accounts-free m, same-count l m once-l once-m h) in
+        let free-same : times 0 l ≡ times 0 m = omega (arith, accounts-free l, accounts-free m, a .all, b .all, same-count l m (a .once) (b .once) h) in
         holds-times 0 l ∙ ap (ltb 0) free-same ∙ sym (holds-times 0 m)
 
     enrol-check : (id count : ℕ) (seed : List ℕ) → enrolChecked id count seed (table P W l) ≡ enrolChecked id count seed (table P W m)
@@ -110,38 +93,31 @@ module _ (P : List Port) (W : Waiting) (l m : List Room) (h : SameAccounts l m) 
         ap₂ (λ (a b : Bool). inOrder (idGiven id ∷ countWithin count ∷ seedChecked seed ∷ must (not a) Refusal.IdTaken ∷ must b Refusal.TableFull ∷ []))
         (there-same id) room-same
 
+  -- A check that looks at an account, where it is there, and at its count.
+  count-check : (check : Bool → ℕ → Checked) → ((n k : ℕ) → check false n ≡ check false k) → (id : ℕ)
+      → check (isThere id (table P W l)) (accountOf id (table P W l) .count) ≡ check (isThere id (table P W m)) (accountOf id (table P W m) .count)
+  count-check check missing id = by (isThere id (table P W l)) refl
+    where
+      by : (b : Bool) → isThere id (table P W l) ≡ b
+          → check (isThere id (table P W l)) (accountOf id (table P W l) .count) ≡ check (isThere id (table P W m)) (accountOf id (table P W m) .count)
+      by true e = ap₂ check (there-same id) (ap (λ (r : Room). r .count) (account-same id e))
+      by false e =
+          ap (λ (b : Bool). check b (accountOf id (table P W l) .count)) e ∙ missing _ _
+          ∙ sym (ap (λ (b : Bool). check b (accountOf id (table P W m) .count)) (sym (there-same id) ∙ e))
+
   join-check : (port id : ℕ) → joinChecked port id (table P W l) ≡ joinChecked port id (table P W m)
   unfolding joinChecked
-  join-check port id = by (isThere id (table P W l)) refl
-    where
-      joinBy : Bool → ℕ → Checked
-      joinBy there count =
-          inOrder (portKnown port ∷ must there Refusal.AccountMissing ∷ notInLine port (table P W l)
-          ∷ portOpen port (table P W l) ∷ must (ltb 1 count) Refusal.AccountUsedUp ∷ [])
-
-      by : (b : Bool) → isThere id (table P W l) ≡ b
-          → joinBy (isThere id (table P W l)) (accountOf id (table P W l) .count) ≡ joinBy (isThere id (table P W m)) (accountOf id (table P W m) .count)
-      by true e = ap₂ joinBy (there-same id) (ap (λ (r : Room). r .count) (account-same id e))
-      by false e =
-          ap (λ (b : Bool). joinBy b (accountOf id (table P W l) .count)) e
-          ∙ sym (ap (λ (b : Bool). joinBy b (accountOf id (table P W m) .count)) (sym (there-same id) ∙ e))
+  join-check port id =
+      count-check (λ there count. inOrder (portKnown port ∷ must there Refusal.AccountMissing ∷ notInLine port (table P W l)
+      ∷ portOpen port (table P W l) ∷ must (ltb 1 count) Refusal.AccountUsedUp ∷ []))
+      (λ n k. refl) id
 
   turn-check : (port : ℕ) → turnChecked port (table P W l) ≡ turnChecked port (table P W m)
   unfolding turnChecked
-  turn-check port = by (isThere (turnId (table P W l)) (table P W l)) refl
-    where
-      turnBy : Bool → ℕ → Checked
-      turnBy there count =
-          inOrder (portKnown port ∷ inLine port (table P W l) ∷ inFront port (table P W l)
-          ∷ must there Refusal.AccountMissing ∷ must (ltb 1 count) Refusal.AccountUsedUp ∷ [])
-
-      by : (b : Bool) → isThere (turnId (table P W l)) (table P W l) ≡ b
-          → turnBy (isThere (turnId (table P W l)) (table P W l)) (accountOf (turnId (table P W l)) (table P W l) .count)
-          ≡ turnBy (isThere (turnId (table P W l)) (table P W m)) (accountOf (turnId (table P W l)) (table P W m) .count)
-      by true e = ap₂ turnBy (there-same (turnId (table P W l))) (ap (λ (r : Room). r .count) (account-same (turnId (table P W l)) e))
-      by false e =
-          ap (λ (b : Bool). turnBy b (accountOf (turnId (table P W l)) (table P W l) .count)) e
-          ∙ sym (ap (λ (b : Bool). turnBy b (accountOf (turnId (table P W l)) (table P W m) .count)) (sym (there-same (turnId (table P W l))) ∙ e))
+  turn-check port =
+      count-check (λ there count. inOrder (portKnown port ∷ inLine port (table P W l) ∷ inFront port (table P W l)
+      ∷ must there Refusal.AccountMissing ∷ must (ltb 1 count) Refusal.AccountUsedUp ∷ []))
+      (λ n k. refl) (turnId (table P W l))
 
   renew-check : (port count : ℕ) (seed : List ℕ) → renewChecked port count seed (table P W l) ≡ renewChecked port count seed (table P W m)
   unfolding renewChecked
@@ -195,33 +171,24 @@ module _ (P : List Port) (W : Waiting) (l m : List Room) (h : SameAccounts l m) 
 
   -- ---- the calls
 
-  placed-there : (id : ℕ) (r : List Room) → isThere id (table P W r) ≡ true → (placeOf id r < length r) × (id ≡ 0 → ⊥)
-  placed-there id r e =
-      let given = both (not (eqb id 0)) (holds id r) e in
-      (ltb-true (placeOf id r) (length r) (given .1), λ z. eqb-false id 0 (not-true (eqb id 0) (given .0)) z)
-
-  leave-check : (port : ℕ) → leaveChecked port (table P W l) ≡ leaveChecked port (table P W m)
-  unfolding leaveChecked
-  leave-check port = refl
+  -- Behind checks that say the same of both tables, whatever kind the answer is.
+  checked-alike : {A : Type 0} (refuse : Refusal → A) (j k : Checked) → j ≡ k → (next other : steps.After A) → (j ≡ Checked.Good → Alike next other)
+      → Alike (unless (λ why. record { answer = refuse why; state = table P W l }) j next)
+      (unless (λ why. record { answer = refuse why; state = table P W m }) k other)
+  checked-alike refuse Checked.Good k e next other f =
+      subst (λ (c : Checked). Alike next (unless (λ why. record { answer = refuse why; state = table P W m }) c other)) e (f refl)
+  checked-alike refuse (Checked.Refused why) k e next other f =
+      subst (λ (c : Checked). Alike (record { answer = refuse why; state = table P W l })
+      (unless (λ why. record { answer = refuse why; state = table P W m }) c other)) e
+      (alike (refuse why) P W l m h)
 
   pub join-alike : (port id : ℕ) → Alike (steps.join port id (table P W l)) (steps.join port id (table P W m))
-  join-alike port id = by (joinChecked port id (table P W l)) refl
-    where
-      by : (k : Checked) → joinChecked port id (table P W l) ≡ k → Alike (steps.join port id (table P W l)) (steps.join port id (table P W m))
-      by Checked.Good e =
-          rw (join-done port id (table P W l) e, join-done port id (table P W m) (sym (join-check port id) ∙ e)) (alike Checked.Good P _ l m h)
-      by (Checked.Refused why) e =
-          rw (join-refused port id (table P W l) why e, join-refused port id (table P W m) why (sym (join-check port id) ∙ e))
-          (alike (Checked.Refused why) P W l m h)
+  unfolding steps.join
+  join-alike port id = checked-alike Checked.Refused _ _ (join-check port id) _ _ (λ e. alike Checked.Good P _ l m h)
 
   pub leave-alike : (port : ℕ) → Alike (steps.leave port (table P W l)) (steps.leave port (table P W m))
-  leave-alike port = by (leaveChecked port (table P W l)) refl
-    where
-      by : (k : Checked) → leaveChecked port (table P W l) ≡ k → Alike (steps.leave port (table P W l)) (steps.leave port (table P W m))
-      by Checked.Good e =
-          rw (leave-done port (table P W l) e, leave-done port (table P W m) (sym (leave-check port) ∙ e)) (alike Checked.Good P _ l m h)
-      by (Checked.Refused why) e =
-          rw (leave-refused port (table P W l) why e, leave-refused port (table P W m) why (sym (leave-check port) ∙ e)) (alike (Checked.Refused why) P W l m h)
+  unfolding steps.leave leaveChecked
+  leave-alike port = checked-alike Checked.Refused (leaveChecked port (table P W l)) _ refl _ _ (λ e. alike Checked.Good P _ l m h)
 
   pub challenge-same : (port room : ℕ) → steps.challenge port room (table P W l) ≡ steps.challenge port room (table P W m)
   challenge-same port room = by (turnChecked port (table P W l)) refl
@@ -260,10 +227,10 @@ module _ (P : List Port) (W : Waiting) (l m : List Room) (h : SameAccounts l m) 
       right = eqb (hash Algorithm.md5 (bytesOf password)) (accountOf id s .password)
 
       at-l : placeOf id l < length l
-      at-l = placed-there id l e .0
+      at-l = there-parts id l e .1
 
       at-m : placeOf id m < length m
-      at-m = placed-there id m (sym (there-same id) ∙ e) .0
+      at-m = there-parts id m (sym (there-same id) ∙ e) .1
 
       put : SameAccounts (set l (placeOf id l) next) (set m (placeOf id m) next)
       put =
@@ -292,60 +259,46 @@ module _ (P : List Port) (W : Waiting) (l m : List Room) (h : SameAccounts l m) 
           subst (λ (room : Room). Alike (steps.offered port p (next (accountOf id (table P W l)) p) (table P W l))
           (steps.offered port p (next room p) (table P W m)))
           (account-same id e)
-          (offered-alike port p (next (accountOf id (table P W l)) p) e (keeps (accountOf id (table P W l)) p ∙ placed-id id l (placed-there id l e .0)))
+          (offered-alike port p (next (accountOf id (table P W l)) p) e (keeps (accountOf id (table P W l)) p ∙ placed-id id l (there-parts id l e .1)))
       by (Reading.Refused why) = alike (Replied.Refused why) P W l m h
 
   pub reply-alike : (port : ℕ) (text : List ℕ) → Alike (steps.reply port text (table P W l)) (steps.reply port text (table P W m))
-  unfolding steps.replyRead
-  reply-alike port text = by (turnChecked port (table P W l)) refl
-    where
-      by : (k : Checked) → turnChecked port (table P W l) ≡ k → Alike (steps.reply port text (table P W l)) (steps.reply port text (table P W m))
-      by Checked.Good e =
-          rw (reply-done port (table P W l) text e, reply-done port (table P W m) text (sym (turn-check port) ∙ e))
-          (read-alike port text lowered (turn-passed port (table P W l) e .there) (λ room password. refl))
-      by (Checked.Refused why) e =
-          rw (reply-refused port (table P W l) text why e, reply-refused port (table P W m) text why (sym (turn-check port) ∙ e))
-          (alike (Replied.Refused why) P W l m h)
+  unfolding steps.reply steps.replyRead
+  reply-alike port text =
+      checked-alike Replied.Refused _ _ (turn-check port) _ _
+      (λ e. read-alike port text lowered (turn-passed port (table P W l) e .there) (λ room password. refl))
 
   pub renew-alike : (port count : ℕ) (seed new text : List ℕ)
       → Alike (steps.renew port count seed new text (table P W l)) (steps.renew port count seed new text (table P W m))
-  unfolding steps.renewRead
-  renew-alike port count seed new text = by (renewChecked port count seed (table P W l)) refl
-    where
-      by : (k : Checked) → renewChecked port count seed (table P W l) ≡ k
-          → Alike (steps.renew port count seed new text (table P W l)) (steps.renew port count seed new text (table P W m))
-      by Checked.Good e =
-          rw (renew-done port count seed (table P W l) new text e, renew-done port count seed (table P W m) new text (sym (renew-check port count seed) ∙ e))
-          (read-alike port text (λ room password. newRoom (room .id) count seed new)
-          (turn-passed port (table P W l) (renew-passed port count seed (table P W l) e .turn) .there) (λ room password. refl))
-      by (Checked.Refused why) e =
-          rw (
-            renew-refused port count seed (table P W l) new text why e,
-            renew-refused port count seed (table P W m) new text why (sym (renew-check port count seed) ∙ e),
-          )
-          (alike (Replied.Refused why) P W l m h)
+  unfolding steps.renew steps.renewRead
+  renew-alike port count seed new text =
+      checked-alike Replied.Refused _ _ (renew-check port count seed) _ _
+      (λ e. read-alike port text (λ room password. newRoom (room .id) count seed new)
+      (turn-passed port (table P W l) (renew-passed port count seed (table P W l) e .turn) .there) (λ room password. refl))
 
-  module _ (all-l : length l ≡ 32) (all-m : length m ≡ 32) (once-l : (id : ℕ) → (id ≡ 0 → ⊥)
-      → times id l ≤ 1) (once-m : (id : ℕ) → (id ≡ 0 → ⊥) → times id m ≤ 1) where
+  module _ (a : Housed (table P W l)) (b : Housed (table P W m)) where
     pub remove-alike : (id : ℕ) → Alike (steps.remove id (table P W l)) (steps.remove id (table P W m))
-    remove-alike id = by (isThere id (table P W l)) refl
-      where
-        by : (b : Bool) → isThere id (table P W l) ≡ b → Alike (steps.remove id (table P W l)) (steps.remove id (table P W m))
-        by true e =
-            let other = sym (there-same id) ∙ e in
-            let at = placed-there id l e in
-            let to = placed-there id m other in
-            rw (remove-done id (table P W l) e, remove-done id (table P W m) other)
-            (alike Checked.Good P _ (set l (placeOf id l) free) (set m (placeOf id m) free)
-            (taken-same id (placeOf id l) (placeOf id m) (at .1) (at .0) (to .0) (placed-id id l (at .0))
-            (placed-id id m (to .0)) (once-l id (at .1)) (once-m id (at .1))))
-        by false e =
-            rw (remove-refused id (table P W l) e, remove-refused id (table P W m) (sym (there-same id) ∙ e))
-            (alike (Checked.Refused Refusal.AccountMissing) P W l m h)
+    unfolding steps.remove
+    remove-alike id =
+        checked-alike Checked.Refused _ _ (ap (λ (b : Bool). must b Refusal.AccountMissing) (there-same id)) _ _
+        (λ e.
+        let at = there-parts id l (must-good _ _ e) in
+        let to = there-parts id m (sym (there-same id) ∙ must-good _ _ e) in
+        alike Checked.Good P _ (set l (placeOf id l) free) (set m (placeOf id m) free)
+        (taken-same id (placeOf id l) (placeOf id m) (at .0) (at .1) (to .1) (placed-id id l (at .1))
+        (placed-id id m (to .1)) (a .once id (at .0)) (b .once id (at .0))))
 
     pub enrol-alike : (id count : ℕ) (seed password : List ℕ)
         → Alike (steps.enrol id count seed password (table P W l)) (steps.enrol id count seed password (table P W m))
-    enrol-alike id count seed password = by (enrolChecked id count seed (table P W l)) refl
+    unfolding steps.enrol
+    enrol-alike id count seed password =
+        checked-alike Checked.Refused _ _ (enrol-check a b id count seed) _ _
+        (λ e.
+        let here = before l e in
+        let there = before m (sym (enrol-check a b id count seed) ∙ e) in
+        alike Checked.Good P W _ _
+        (put-same (newRoom id count seed password) (placeOf 0 l) (placeOf 0 m) (here .0) (there .0) (here .1) (there .1)
+        (λ i g o w. g (sym w ∙ here .2)) (λ i g o w. g (sym w ∙ there .2))))
       where
         -- The first free room comes before any room that has the id, since none has it.
         before : (r : List Room) → enrolChecked id count seed (table P W r) ≡ Checked.Good
@@ -356,20 +309,3 @@ module _ (P : List Port) (W : Waiting) (l m : List Room) (h : SameAccounts l m) 
             let none-held : holds id r ≡ false =
             sym (ap (λ (b : Bool). b && holds id r) (passed .given)) ∙ not-true (isThere id (table P W r)) (passed .new) in
             (at, omega (arith, ltb-false (placeOf id r) (length r) none-held), placed-id 0 r at)
-
-        by : (k : Checked) → enrolChecked id count seed (table P W l) ≡ k
-            → Alike (steps.enrol id count seed password (table P W l)) (steps.enrol id count seed password (table P W m))
-        by Checked.Good e =
-            let f = sym (enrol-check all-l all-m once-l once-m id count seed) ∙ e in
-            let a = before l e in
-            let b = before m f in
-            rw (enrol-done id count seed (table P W l) password e, enrol-done id count seed (table P W m) password f)
-            (alike Checked.Good P W _ _
-            (put-same (newRoom id count seed password) (placeOf 0 l) (placeOf 0 m) (a .0) (b .0) (a .1) (b .1)
-            (λ i g o w. g (sym w ∙ a .2)) (λ i g o w. g (sym w ∙ b .2))))
-        by (Checked.Refused why) e =
-            rw (
-              enrol-refused id count seed (table P W l) password why e,
-              enrol-refused id count seed (table P W m) password why (sym (enrol-check all-l all-m once-l once-m id count seed) ∙ e),
-            )
-            (alike (Checked.Refused why) P W l m h)

@@ -1,7 +1,10 @@
--- Runs of calls, equal tables, and the laws of the tables that calls make.
+-- Runs of calls, equal tables, and the laws of the tables that calls make: what is found in their rooms, what a call can do to them, what stays.
+-- Each, Made, InTurn and Day have the words of the demands on tables.
 pub mod Calls
 pub mod Equal
 pub mod RoomsFound
+pub mod RoomsChanged
+pub mod Outcome
 pub mod EqualLaws
 pub mod Laws
 pub mod Examples

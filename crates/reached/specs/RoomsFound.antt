@@ -6,14 +6,16 @@ use mathlib.Core.List.{List, [], _∷_}
 use mathlib.Core.Option.{Option, none, some}
 use native.Mathlib.Omega.{arith}
 use native.Mathlib.Decide.{ℕ-discrete}
-use borrow.Author.Tests.{eq-eqb, ne-eqb, eqb-true, lt-ltb, le-ltb, ltb-true}
+use borrow.Author.Tests.{eq-eqb, ne-eqb, eqb-true, eqb-false, lt-ltb, le-ltb, ltb-true}
 use lib.Dec.{eqb, ltb, leb·suc-suc}
 use lib.ListN.{length, getD, set}
 use Rattle.accounts.specs.Rooms.{Room, free, placeOf, holds}
+use Rattle.reached.specs.Each.{Each}
+use Rattle.reached.specs.Made.{Apart}
 use Rattle.reached.specs.Equal.{accountBy, SameAccounts, times, accountsIn}
 
 -- 1 where the two are the same number.
-abbrev is : ℕ → ℕ → ℕ
+abbrev pub is : ℕ → ℕ → ℕ
 is a b = cond (eqb a b) 1 0
 
 first-below : (n : ℕ) → ltb 0 (suc n) ≡ true
@@ -166,6 +168,42 @@ module _ (x : Room) (l : List Room) where
   times-own : times (x .id) (x ∷ l) ≡ suc (times (x .id) l)
   unfolding times
   times-own = ap (λ (b : Bool). cond b (suc (times (x .id) l)) (times (x .id) l)) (eq-eqb (x .id) (x .id) refl)
+
+-- No room has the id, or each has another.
+none-times : (id : ℕ) (l : List Room) → times id l ≡ 0 → Each (λ (room : Room). room .id ≡ id → ⊥) l
+unfolding times
+none-times id [] e = tt
+none-times id (x ∷ l) e = by (eqb (x .id) id) refl e (none-times id l)
+  where
+    by : (b : Bool) → eqb (x .id) id ≡ b → cond b (suc (times id l)) (times id l) ≡ 0
+        → (times id l ≡ 0 → Each (λ (room : Room). room .id ≡ id → ⊥) l) → Each (λ (room : Room). room .id ≡ id → ⊥) (x ∷ l)
+    by true f e k = absurd (omega arith)
+    by false f e k = (eqb-false (x .id) id f, k e)
+
+others-times : (id : ℕ) (l : List Room) → Each (λ (room : Room). room .id ≡ id → ⊥) l → times id l ≡ 0
+unfolding times
+others-times id [] h = refl
+others-times id (x ∷ l) h = rw (ne-eqb (x .id) id (h .0)) (others-times id l (h .1))
+
+-- The two ways to say that no two accounts have one id.
+pub once-apart : (l : List Room) → Once l → Apart l
+once-apart [] o = tt
+once-apart (x ∷ l) o = (
+  λ g. none-times (x .id) l (omega (arith, o (x .id) g, times-own x l)),
+  once-apart l (λ id h. omega (arith, times-tail x l id, o id h)),
+)
+
+pub apart-once : (l : List Room) → Apart l → Once l
+unfolding times
+apart-once [] a id g = omega arith
+apart-once (x ∷ l) a id g = by (eqb (x .id) id) refl (apart-once l (a .1) id g)
+  where
+    by : (b : Bool) → eqb (x .id) id ≡ b → times id l ≤ 1 → cond b (suc (times id l)) (times id l) ≤ 1
+    by true e k =
+        let same = eqb-true (x .id) id e in
+        let none = others-times (x .id) l (a .0 (λ z. g (sym same ∙ z))) in
+        omega (arith, ap (λ (i : ℕ). times i l) same)
+    by false e k = k
 
 -- An account that is found stands in a room.
 pub found-placed : (id : ℕ) (l : List Room) (x : Room) → accountBy id l ≡ some x → placeOf id l < length l

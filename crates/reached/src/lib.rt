@@ -1,1 +1,1 @@
-// No code: laws of the tables that calls make, over the definitions of `login`, are in specs/.
+// No code: calls as data, the words of the demands on tables, and the laws of the tables that calls make are in specs/.

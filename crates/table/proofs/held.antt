@@ -1,2 +1,2 @@
--- What the proofs of `standing`'s functions share.
+-- What the proofs of `held`'s functions share.
 pub mod Found

@@ -1,20 +1,20 @@
--- What the checks of each call say where they found nothing wrong, and each call's two ways: a refusal, or what it does.
+-- What the checks of each call say where they found nothing wrong, and the two ways of most calls: a refusal, or what they do.
 use Prim.Native.Nat.{ℕ, _-_}
 use mathlib.Core.Path.{_≡_, refl}
-use mathlib.Core.Bool.{Bool, true, false, not, _&&_}
-use mathlib.Core.List.{List}
+use mathlib.Core.Bool.{true, not, _&&_}
+use mathlib.Core.List.{List, [], _∷_}
 use native.Mathlib.Omega.{arith}
 use lib.Dec.{eqb, leb, ltb}
 use Rattle.refusal.specs.declared.Refusal.{Refusal}
 use Rattle.refusal.specs.declared.Checked.{Checked}
 use Rattle.refusal.specs.declared.Written.{Written}
 use Rattle.refusal.specs.Checks.{unless}
+use Rattle.refusal.specs.Laws.{must-good}
 use Rattle.password.specs.PhraseAndSeed.{seedChecked}
 use Rattle.challenge.specs.Challenges.{challengeWritten}
-use Rattle.refusal.specs.Checks.{must}
 use Rattle.line.specs.Line.{standsIn, joined, left, removed}
 use Rattle.accounts.specs.Rooms.{free, holds, placeOf}
-use Rattle.accounts.specs.Accounts.{newRoom}
+use Rattle.accounts.specs.Accounts.{inOrder, newRoom}
 use Rattle.table.specs.Table.{State, isThere, accountOf, portOf, hasTurn, turnId, withRoom, withLine}
 use Rattle.table.specs.TableChecks.{seedNew}
 use Rattle.table.specs.Steps as steps
@@ -26,13 +26,18 @@ both-passed Checked.Good rest e = (refl, e)
 both-passed (Checked.Refused why) rest e = let z : _≡_ {A = ℕ} 0 1 = cc in absurd (omega arith)
 
 -- The last check.
-pub last-passed : (check : Checked) → unless Checked.Refused check Checked.Good ≡ Checked.Good → check ≡ Checked.Good
+last-passed : (check : Checked) → unless Checked.Refused check Checked.Good ≡ Checked.Good → check ≡ Checked.Good
 last-passed check e = both-passed check Checked.Good e .0
 
--- A test that must hold.
-pub test-passed : (test : Bool) (why : Refusal) → must test why ≡ Checked.Good → test ≡ true
-test-passed true why e = refl
-test-passed false why e = let z : _≡_ {A = ℕ} 0 1 = cc in absurd (omega arith)
+-- Five checks, one after the other.
+five-passed : (a b c d e : Checked) → inOrder (a ∷ b ∷ c ∷ d ∷ e ∷ []) ≡ Checked.Good
+    → (a ≡ Checked.Good) × (b ≡ Checked.Good) × (c ≡ Checked.Good) × (d ≡ Checked.Good) × (e ≡ Checked.Good)
+five-passed a b c d e h =
+    let p = both-passed a _ h in
+    let q = both-passed b _ (p .1) in
+    let r = both-passed c _ (q .1) in
+    let t = both-passed d _ (r .1) in
+    (p .0, q .0, r .0, t .0, last-passed e (t .1))
 
 -- ---- Enrol
 
@@ -47,16 +52,13 @@ module _ (id count : ℕ) (seed : List ℕ) (s : State) where
   pub enrol-passed : enrolChecked id count seed s ≡ Checked.Good → EnrolPassed id count seed s
   unfolding enrolChecked
   enrol-passed e =
-      let a = both-passed _ _ e in
-      let b = both-passed _ _ (a .1) in
-      let c = both-passed _ _ (b .1) in
-      let d = both-passed _ _ (c .1) in
+      let passed = five-passed _ _ _ _ _ e in
       record {
-        given = test-passed _ _ (a .0);
-        within = test-passed _ _ (b .0);
-        good = c .0;
-        new = test-passed _ _ (d .0);
-        room = test-passed _ _ (last-passed _ (d .1));
+        given = must-good _ _ (passed .0);
+        within = must-good _ _ (passed .1);
+        good = passed .2;
+        new = must-good _ _ (passed .3);
+        room = must-good _ _ (passed .4);
       }
 
   pub enrol-refused : (password : List ℕ) (why : Refusal) → enrolChecked id count seed s ≡ Checked.Refused why
@@ -72,10 +74,6 @@ module _ (id count : ℕ) (seed : List ℕ) (s : State) where
 -- ---- Remove
 
 module _ (id : ℕ) (s : State) where
-  pub remove-refused : isThere id s ≡ false → steps.remove id s ≡ steps.refused s Refusal.AccountMissing
-  unfolding steps.remove
-  remove-refused e = rw e
-
   pub remove-done : isThere id s ≡ true
       → steps.remove id s ≡ steps.done (withLine (removed id (s .line)) (withRoom (placeOf id (s .rooms)) free s))
   unfolding steps.remove
@@ -94,16 +92,13 @@ module _ (port id : ℕ) (s : State) where
   pub join-passed : joinChecked port id s ≡ Checked.Good → JoinPassed port id s
   unfolding joinChecked
   join-passed e =
-      let a = both-passed _ _ e in
-      let b = both-passed _ _ (a .1) in
-      let c = both-passed _ _ (b .1) in
-      let d = both-passed _ _ (c .1) in
+      let passed = five-passed _ _ _ _ _ e in
       record {
-        known = test-passed _ _ (a .0);
-        there = test-passed _ _ (b .0);
-        out = test-passed _ _ (c .0);
-        unshut = test-passed _ _ (d .0);
-        unused = test-passed _ _ (last-passed _ (d .1));
+        known = must-good _ _ (passed .0);
+        there = must-good _ _ (passed .1);
+        out = must-good _ _ (passed .2);
+        unshut = must-good _ _ (passed .3);
+        unused = must-good _ _ (passed .4);
       }
 
   pub join-refused : (why : Refusal) → joinChecked port id s ≡ Checked.Refused why → steps.join port id s ≡ steps.refused s why
@@ -117,12 +112,6 @@ module _ (port id : ℕ) (s : State) where
 -- ---- Leave
 
 module _ (port : ℕ) (s : State) where
-  pub leave-passed : leaveChecked port s ≡ Checked.Good → (leb port 3 ≡ true) × (standsIn port (s .line) ≡ true)
-  unfolding leaveChecked
-  leave-passed e =
-      let a = both-passed _ _ e in
-      (test-passed _ _ (a .0), test-passed _ _ (last-passed _ (a .1)))
-
   pub leave-refused : (why : Refusal) → leaveChecked port s ≡ Checked.Refused why → steps.leave port s ≡ steps.refused s why
   unfolding steps.leave
   leave-refused why e = rw e
@@ -150,16 +139,13 @@ module _ (port : ℕ) (s : State) where
   pub turn-passed : turnChecked port s ≡ Checked.Good → TurnPassed port s
   unfolding turnChecked
   turn-passed e =
-      let a = both-passed _ _ e in
-      let b = both-passed _ _ (a .1) in
-      let c = both-passed _ _ (b .1) in
-      let d = both-passed _ _ (c .1) in
+      let passed = five-passed _ _ _ _ _ e in
       record {
-        known = test-passed _ _ (a .0);
-        inside = test-passed _ _ (b .0);
-        front = test-passed _ _ (c .0);
-        there = test-passed _ _ (d .0);
-        unused = test-passed _ _ (last-passed _ (d .1));
+        known = must-good _ _ (passed .0);
+        inside = must-good _ _ (passed .1);
+        front = must-good _ _ (passed .2);
+        there = must-good _ _ (passed .3);
+        unused = must-good _ _ (passed .4);
       }
 
   pub challenge-refused : (room : ℕ) (why : Refusal) → turnChecked port s ≡ Checked.Refused why → steps.challenge port room s ≡ Written.Refused why
@@ -171,14 +157,6 @@ module _ (port : ℕ) (s : State) where
   unfolding steps.challenge
   challenge-done room e = rw e
 
-  pub reply-refused : (text : List ℕ) (why : Refusal) → turnChecked port s ≡ Checked.Refused why → steps.reply port text s ≡ steps.replyRefused s why
-  unfolding steps.reply
-  reply-refused text why e = rw e
-
-  pub reply-done : (text : List ℕ) → turnChecked port s ≡ Checked.Good → steps.reply port text s ≡ steps.replyRead port text s
-  unfolding steps.reply
-  reply-done text e = rw e
-
 module _ (port count : ℕ) (seed : List ℕ) (s : State) where
   pub renew-passed : renewChecked port count seed s ≡ Checked.Good → RenewPassed port count seed s
   unfolding renewChecked
@@ -186,14 +164,4 @@ module _ (port count : ℕ) (seed : List ℕ) (s : State) where
       let a = both-passed _ _ e in
       let b = both-passed _ _ (a .1) in
       let c = both-passed _ _ (b .1) in
-      record { turn = a .0; within = test-passed _ _ (b .0); good = c .0; new = last-passed _ (c .1) }
-
-  pub renew-refused : (new text : List ℕ) (why : Refusal) → renewChecked port count seed s ≡ Checked.Refused why
-      → steps.renew port count seed new text s ≡ steps.replyRefused s why
-  unfolding steps.renew
-  renew-refused new text why e = rw e
-
-  pub renew-done : (new text : List ℕ) → renewChecked port count seed s ≡ Checked.Good
-      → steps.renew port count seed new text s ≡ steps.renewRead port count seed new text s
-  unfolding steps.renew
-  renew-done new text e = rw e
+      record { turn = a .0; within = must-good _ _ (b .0); good = c .0; new = last-passed _ (c .1) }

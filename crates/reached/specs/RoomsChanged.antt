@@ -1,29 +1,14 @@
 -- Accounts in their rooms: where an account stands, and what a changed room does to the others.
-use Prim.Native.Nat.{ℕ, suc, _≤_, _<_}
-use native.Mathlib.Nat.{le-of-suc-le-suc, not-suc-le-zero}
+use Prim.Native.Nat.{ℕ, suc, _<_}
 use mathlib.Core.Path.{_≡_, refl, sym, ap, _∙_}
 use mathlib.Core.Bool.{Bool, true, false, cond, not, _&&_}
 use mathlib.Core.List.{List, [], _∷_}
-use borrow.Author.Tests.{eqb-true, eqb-false, eq-eqb, ne-eqb, ltb-true, ltb-false, lt-ltb, not-true}
+use borrow.Author.Tests.{eqb-true, eqb-false, eq-eqb, ne-eqb, ltb-true, lt-ltb, not-true}
 use lib.Dec.{eqb}
 use lib.ListN.{length, getD, set, length-set}
 use lib.Seq.{getD-set-same}
 use Rattle.text.specs.Tests.{both}
 use Rattle.accounts.specs.Rooms.{Room, free, placeOf, holds}
-use Rattle.reached.specs.Each.{Each}
-
--- The account with an id that is there has that id.
-pub holder-id : (id : ℕ) (rooms : List Room) → placeOf id rooms < length rooms → getD rooms (placeOf id rooms) free .id ≡ id
-unfolding placeOf
-holder-id id [] h = absurd (not-suc-le-zero h)
-holder-id id (room ∷ rooms) h = go (eqb (room .id) id) refl (holder-id id rooms) h
-  where
-    go : (t : Bool) → eqb (room .id) id ≡ t
-        → (placeOf id rooms < length rooms → getD rooms (placeOf id rooms) free .id ≡ id)
-        → cond t 0 (suc (placeOf id rooms)) < suc (length rooms)
-        → getD (room ∷ rooms) (cond t 0 (suc (placeOf id rooms))) free .id ≡ id
-    go true e ih k = eqb-true (room .id) id e
-    go false e ih k = ih (le-of-suc-le-suc k)
 
 -- Another account stands where it stood, as it was, when the first room with the id k changes.
 pub other-stays : (j k : ℕ) (rooms : List Room) (room : Room) → (j ≡ k → ⊥) → (room .id ≡ j → ⊥)
@@ -97,20 +82,3 @@ pub same-changed : (k : ℕ) (rooms : List Room) (room : Room) → room .id ≡ 
 same-changed k rooms room n h =
     ap (λ (m : ℕ). getD (set rooms (placeOf k rooms) room) m free) (same-place k rooms room n)
     ∙ getD-set-same rooms (placeOf k rooms) room free h
-
--- No room has an id that isn't there.
-pub absent : (id : ℕ) (rooms : List Room) → length rooms ≤ placeOf id rooms → Each (λ (room : Room). room .id ≡ id → ⊥) rooms
-unfolding placeOf
-absent id [] h = tt
-absent id (r ∷ rs) h = go (eqb (r .id) id) refl (absent id rs) h
-  where
-    go : (t : Bool) → eqb (r .id) id ≡ t
-        → (length rs ≤ placeOf id rs → Each (λ (room : Room). room .id ≡ id → ⊥) rs)
-        → suc (length rs) ≤ cond t 0 (suc (placeOf id rs))
-        → Each (λ (room : Room). room .id ≡ id → ⊥) (r ∷ rs)
-    go true e ih k = absurd (not-suc-le-zero k)
-    go false e ih k = (eqb-false (r .id) id e, ih (le-of-suc-le-suc k))
-
-pub not-there : (id : ℕ) (rooms : List Room) → (id ≡ 0 → ⊥) → (not (eqb id 0) && holds id rooms) ≡ false
-    → Each (λ (room : Room). room .id ≡ id → ⊥) rooms
-not-there id rooms n e = absent id rooms (ltb-false (placeOf id rooms) (length rooms) (rw (ne-eqb id 0 n) at e))

@@ -2,11 +2,12 @@
 use Prim.Native.Nat.{ℕ, _+_, _≤_, _<_}
 use native.Mathlib.Omega.{arith}
 use mathlib.Core.Path.{_≡_, refl}
-use mathlib.Core.Bool.{Bool, true, false, cond, not, _||_}
+use mathlib.Core.Bool.{Bool, true, false, cond, _&&_, _||_}
 use mathlib.Core.List.{List, [], _∷_, map}
 use borrow.Author.Tests.{eqb-true, eqb-false, ltb-true, leb-true, le-leb, not-true}
 use lib.Dec.{eqb, leb}
 use lib.ListN.{length-map}
+use Rattle.refusal.specs.declared.Refusal.{Refusal}
 use Rattle.refusal.specs.declared.Checked.{Checked}
 use Rattle.refusal.specs.declared.Reading.{Reading}
 use Rattle.refusal.specs.Checks.{unless}
@@ -18,19 +19,20 @@ use Rattle.password.specs.Password.{Algorithm, hash, bytesOf}
 use Rattle.reply.specs.Reading.{readingOf}
 use Rattle.line.specs.Line as Line
 use Rattle.line.specs.Line.{standsIn}
-use Rattle.accounts.specs.Rooms.{Room, free, placeOf}
+use Rattle.accounts.specs.Rooms.{Room, free, placeOf, holds}
+use Rattle.table.specs.declared.Replied.{Replied}
 use Rattle.table.specs.Table.{State, isThere, accountOf, portOf, hasTurn, turnId, withRoom, withLine}
-use Rattle.accounts.specs.Accounts.{countWithin, newRoom, lowered}
-use Rattle.table.specs.TableChecks.{idGiven, idNew, roomLeft, accountThere, portKnown, notInLine, portOpen, notUsedUp, inLine, inFront, seedNew}
+use Rattle.accounts.specs.Accounts.{newRoom, lowered}
+use Rattle.table.specs.TableChecks.{accountThere}
 use Rattle.table.specs.Steps as Steps
-use Rattle.table.specs.Steps.{refused, replyRefused, done, enrolChecked, joinChecked, leaveChecked, turnChecked, renewChecked, offered, read}
+use Rattle.table.specs.Steps.{After, enrolChecked, joinChecked, leaveChecked, turnChecked, renewChecked, offered, read}
 use Rattle.reached.specs.Calls.{Call, after}
 use Rattle.reached.specs.InTurn.{tickOf, quiet}
-use Rattle.reached.specs.Each.{Each}
 use Rattle.reached.specs.Made.{isKept, AccountGood}
 use Rattle.refusal.specs.Laws.{must-good}
-use Rattle.grounds.specs.Good.{all-good}
-use Rattle.grounds.specs.RoomsChanged.{there-parts, holder-id}
+use Rattle.table.specs.Passed.{enrol-passed, join-passed, turn-passed, renew-passed}
+use Rattle.reached.specs.RoomsFound.{placed-id}
+use Rattle.reached.specs.RoomsChanged.{there-parts}
 
 -- What the checks of Challenge, Reply and Renew establish.
 pub record TurnGood (port : ℕ) (s : State) : Type 0 where
@@ -49,7 +51,7 @@ NotFor c id = (p i : ℕ) → quiet p i c ≡ true → eqb id i ≡ false
 pub data Outcome (c : Call) (s : State) : State → Type 0 where
   nothing : tickOf c ≡ 0 → Outcome c s s
   enrolled : tickOf c ≡ 0 → (room : Room) → AccountGood room → (room .id ≡ 0 → ⊥) → isThere (room .id) s ≡ false
-      → Outcome c s (withRoom (placeOf 0 (s .rooms)) room s)
+      → holds 0 (s .rooms) ≡ true → Outcome c s (withRoom (placeOf 0 (s .rooms)) room s)
   removed : tickOf c ≡ 0 → (id : ℕ) → isThere id s ≡ true → NotFor c id
       → Outcome c s (withLine (Line.removed id (s .line)) (withRoom (placeOf id (s .rooms)) free s))
   joined : tickOf c ≡ 0 → (port id : ℕ) → port ≤ 3 → isThere id s ≡ true → standsIn port (s .line) ≡ false
@@ -82,10 +84,10 @@ seed-lower (b ∷ s) e =
     rw (kept-lower b (halves .0)) (seed-lower s (halves .1))
 
 -- What Enrol and Renew store is good.
-new-good : (id count : ℕ) (seed password : List ℕ) → countWithin count ≡ Checked.Good → seedChecked seed ≡ Checked.Good
+new-good : (id count : ℕ) (seed password : List ℕ) → (leb 2 count && leb count 9999) ≡ true → seedChecked seed ≡ Checked.Good
     → AccountGood (newRoom id count seed password)
 new-good id count seed password e f =
-    let counts = both (leb 2 count) (leb count 9999) (must-good _ _ e) in
+    let counts = both (leb 2 count) (leb count 9999) e in
     let from = leb-true 2 count (counts .0) in
     let good = good-seed seed f in
     record {
@@ -98,84 +100,65 @@ new-good id count seed password e f =
 
 -- ---- each call's outcome
 
--- A port that is not p.
-not-eqb : (a b : ℕ) → not (eqb a b) ≡ true → eqb a b ≡ false
-not-eqb a b e = not-true (eqb a b) e
+-- Behind checks: nothing where one of them refuses, else what comes next.
+checked-outcome : {A : Type 0} (refuse : Refusal → A) (c : Call) (s : State) (k : Checked) (next : After A) → tickOf c ≡ 0
+    → (k ≡ Checked.Good → Outcome c s (next .state)) → Outcome c s (unless (λ why. record { answer = refuse why; state = s }) k next .state)
+checked-outcome refuse c s Checked.Good next z f = f refl
+checked-outcome refuse c s (Checked.Refused why) next z f = Outcome.nothing z
 
 enrol-outcome : (id count : ℕ) (seed password : List ℕ) (s : State)
     → Outcome (Call.Enrol id count seed password) s (Steps.enrol id count seed password s .state)
 unfolding Steps.enrol
-enrol-outcome id count seed password s = go (enrolChecked id count seed s) refl
-  where
-    good : enrolChecked id count seed s ≡ Checked.Good
-        → Each (λ (check : Checked). check ≡ Checked.Good) (idGiven id ∷ countWithin count ∷ seedChecked seed ∷ idNew id s ∷ roomLeft s ∷ [])
-    good e = all-good (idGiven id ∷ countWithin count ∷ seedChecked seed ∷ idNew id s ∷ roomLeft s ∷ []) (unfold enrolChecked in e)
-
-    go : (k : Checked) → enrolChecked id count seed s ≡ k
-        → Outcome (Call.Enrol id count seed password) s
-        (unless (refused s) k (done (withRoom (placeOf 0 (s .rooms)) (newRoom id count seed password) s)) .state)
-    go (Checked.Refused why) e = Outcome.nothing refl
-    go Checked.Good e =
-        let facts = good e in
-        Outcome.enrolled refl (newRoom id count seed password)
-        (new-good id count seed password (facts .1 .0) (facts .1 .1 .0))
-        (eqb-false id 0 (not-eqb id 0 (must-good _ _ (facts .0))))
-        (not-true (isThere id s) (must-good _ _ (facts .1 .1 .1 .0)))
+enrol-outcome id count seed password s =
+    checked-outcome Checked.Refused (Call.Enrol id count seed password) s (enrolChecked id count seed s) _ refl
+    (λ e.
+    let passed = enrol-passed id count seed s e in
+    Outcome.enrolled refl (newRoom id count seed password) (new-good id count seed password (passed .within) (passed .good))
+    (eqb-false id 0 (not-true (eqb id 0) (passed .given))) (not-true (isThere id s) (passed .new)) (passed .room))
 
 remove-outcome : (id : ℕ) (s : State) → Outcome (Call.Remove id) s (Steps.remove id s .state)
 unfolding Steps.remove
-remove-outcome id s = go (accountThere id s) refl
-  where
-    go : (k : Checked) → accountThere id s ≡ k
-        → Outcome (Call.Remove id) s
-        (unless (refused s) k (done (withLine (Line.removed id (s .line)) (withRoom (placeOf id (s .rooms)) free s))) .state)
-    go (Checked.Refused why) e = Outcome.nothing refl
-    go Checked.Good e = Outcome.removed refl id (must-good _ _ e) (λ p i q. not-eqb id i q)
+remove-outcome id s =
+    checked-outcome Checked.Refused (Call.Remove id) s (accountThere id s) _ refl
+    (λ e. Outcome.removed refl id (must-good _ _ e) (λ p i q. not-true (eqb id i) q))
 
 pub join-good : (port id : ℕ) (s : State) → joinChecked port id s ≡ Checked.Good
     → (port ≤ 3) × (isThere id s ≡ true) × (standsIn port (s .line) ≡ false) × (portOf port s .shut ≡ 0)
-unfolding joinChecked
 join-good port id s e =
-    let facts = all-good (portKnown port ∷ accountThere id s ∷ notInLine port s ∷ portOpen port s ∷ notUsedUp id s ∷ []) e in (
-      leb-true port 3 (must-good _ _ (facts .0)),
-      must-good _ _ (facts .1 .0),
-      not-true (standsIn port (s .line)) (must-good _ _ (facts .1 .1 .0)),
-      eqb-true (portOf port s .shut) 0 (must-good _ _ (facts .1 .1 .1 .0)),
+    let passed = join-passed port id s e in (
+      leb-true port 3 (passed .known),
+      passed .there,
+      not-true (standsIn port (s .line)) (passed .out),
+      eqb-true (portOf port s .shut) 0 (passed .unshut),
     )
 
 join-outcome : (port id : ℕ) (s : State) → Outcome (Call.Join port id) s (Steps.join port id s .state)
 unfolding Steps.join
-join-outcome port id s = go (joinChecked port id s) refl
-  where
-    go : (k : Checked) → joinChecked port id s ≡ k
-        → Outcome (Call.Join port id) s (unless (refused s) k (done (withLine (Line.joined port id (s .line)) s)) .state)
-    go (Checked.Refused why) e = Outcome.nothing refl
-    go Checked.Good e =
-        let facts = join-good port id s e in
-        Outcome.joined refl port id (facts .0) (facts .1) (facts .2) (facts .3) (λ p i q. not-eqb port p q)
+join-outcome port id s =
+    checked-outcome Checked.Refused (Call.Join port id) s (joinChecked port id s) _ refl
+    (λ e.
+    let facts = join-good port id s e in
+    Outcome.joined refl port id (facts .0) (facts .1) (facts .2) (facts .3) (λ p i q. not-true (eqb port p) q))
 
 leave-outcome : (port : ℕ) (s : State) → Outcome (Call.Leave port) s (Steps.leave port s .state)
 unfolding Steps.leave
-leave-outcome port s = go (leaveChecked port s)
-  where
-    go : (k : Checked) → Outcome (Call.Leave port) s (unless (refused s) k (done (withLine (Line.left port (s .line)) s)) .state)
-    go (Checked.Refused why) = Outcome.nothing refl
-    go Checked.Good = Outcome.left refl port (λ p i q. not-eqb port p q)
+leave-outcome port s =
+    checked-outcome Checked.Refused (Call.Leave port) s (leaveChecked port s) _ refl
+    (λ e. Outcome.left refl port (λ p i q. not-true (eqb port p) q))
 
 pub turn-good : (port : ℕ) (s : State) → turnChecked port s ≡ Checked.Good → TurnGood port s
-unfolding turnChecked
 turn-good port s e =
-    let facts = all-good (portKnown port ∷ inLine port s ∷ inFront port s ∷ accountThere (turnId s) s ∷ notUsedUp (turnId s) s ∷ []) e in
+    let passed = turn-passed port s e in
     record {
-      known = leb-true port 3 (must-good _ _ (facts .0));
-      front = must-good _ _ (facts .1 .1 .0);
-      there = must-good _ _ (facts .1 .1 .1 .0);
-      unused = ltb-true 1 (accountOf (turnId s) s .count) (must-good _ _ (facts .1 .1 .1 .1 .0));
+      known = leb-true port 3 (passed .known);
+      front = passed .front;
+      there = passed .there;
+      unused = ltb-true 1 (accountOf (turnId s) s .count) (passed .unused);
     }
 
 -- The account whose turn it is has the id that its port waits for.
 pub turn-holder : (port : ℕ) (s : State) → TurnGood port s → accountOf (turnId s) s .id ≡ turnId s
-turn-holder port s g = holder-id (turnId s) (s .rooms) (there-parts (turnId s) (s .rooms) (g .there) .1)
+turn-holder port s g = placed-id (turnId s) (s .rooms) (there-parts (turnId s) (s .rooms) (g .there) .1)
 
 offered-outcome : (c : Call) (port password : ℕ) (next : Room) (s : State) → tickOf c ≡ 0 → TurnGood port s → NotBy c port
     → next .id ≡ turnId s → (AccountGood (accountOf (turnId s) s) → AccountGood next)
@@ -188,12 +171,28 @@ offered-outcome c port password next s z g n i a =
     go true = Outcome.accepted z port next g n i a
     go false = Outcome.rejected z port g n
 
+-- What is done with a text: nothing where it is refused, else the password is offered.
+read-outcome : (c : Call) (port : ℕ) (text : List ℕ) (next : ℕ → Room) (s : State) → tickOf c ≡ 0 → TurnGood port s → NotBy c port
+    → ((password : ℕ) → next password .id ≡ turnId s)
+    → ((password : ℕ) → AccountGood (accountOf (turnId s) s) → AccountGood (next password))
+    → Outcome c s (read s (readingOf text) (λ password. offered port password (next password) s) .state)
+read-outcome c port text next s z g n i a = go (readingOf text)
+  where
+    go : (r : Reading) → Outcome c s (read s r (λ password. offered port password (next password) s) .state)
+    go (Reading.Password password) = offered-outcome c port password (next password) s z g n (i password) (a password)
+    go (Reading.Refused why) = Outcome.nothing z
+
 reply-outcome : (port : ℕ) (text : List ℕ) (s : State) → Outcome (Call.Reply port text) s (Steps.reply port text s .state)
 unfolding Steps.reply Steps.replyRead
-reply-outcome port text s = go (turnChecked port s) refl (readingOf text)
+reply-outcome port text s =
+    checked-outcome Replied.Refused (Call.Reply port text) s (turnChecked port s) _ refl
+    (λ e.
+    let g = turn-good port s e in
+    read-outcome (Call.Reply port text) port text (lowered (accountOf (turnId s) s)) s refl g
+    (λ p i q. not-true (eqb port p) q) (λ password. turn-holder port s g) (λ password. lower g password))
   where
-    lower : (password : ℕ) → TurnGood port s → AccountGood (accountOf (turnId s) s) → AccountGood (lowered (accountOf (turnId s) s) password)
-    lower password g a =
+    lower : TurnGood port s → (password : ℕ) → AccountGood (accountOf (turnId s) s) → AccountGood (lowered (accountOf (turnId s) s) password)
+    lower g password a =
         let unused = g .unused in
         record {
           count-from = omega arith;
@@ -203,39 +202,18 @@ reply-outcome port text s = go (turnChecked port s) refl (readingOf text)
           seed-kept = a .seed-kept;
         }
 
-    go : (k : Checked) → turnChecked port s ≡ k → (r : Reading)
-        → Outcome (Call.Reply port text) s
-        (unless (replyRefused s) k (read s r (λ password. offered port password (lowered (accountOf (turnId s) s) password) s)) .state)
-    go (Checked.Refused why) e r = Outcome.nothing refl
-    go Checked.Good e (Reading.Refused why) = Outcome.nothing refl
-    go Checked.Good e (Reading.Password password) =
-        let g = turn-good port s e in
-        offered-outcome (Call.Reply port text) port password (lowered (accountOf (turnId s) s) password) s refl g
-        (λ p i q. not-eqb port p q) (turn-holder port s g) (lower password g)
-
-renew-good : (port count : ℕ) (seed : List ℕ) (s : State) → renewChecked port count seed s ≡ Checked.Good
-    → TurnGood port s × (countWithin count ≡ Checked.Good) × (seedChecked seed ≡ Checked.Good)
-unfolding renewChecked
-renew-good port count seed s e =
-    let facts = all-good (turnChecked port s ∷ countWithin count ∷ seedChecked seed ∷ seedNew seed (turnId s) s ∷ []) e in
-    (turn-good port s (facts .0), facts .1 .0, facts .1 .1 .0)
-
 renew-outcome : (port count : ℕ) (seed new text : List ℕ) (s : State)
     → Outcome (Call.Renew port count seed new text) s (Steps.renew port count seed new text s .state)
 unfolding Steps.renew Steps.renewRead
-renew-outcome port count seed new text s = go (renewChecked port count seed s) refl (readingOf text)
-  where
-    go : (k : Checked) → renewChecked port count seed s ≡ k → (r : Reading)
-        → Outcome (Call.Renew port count seed new text) s
-        (unless (replyRefused s) k
-        (read s r (λ password. offered port password (newRoom (accountOf (turnId s) s .id) count seed new) s)) .state)
-    go (Checked.Refused why) e r = Outcome.nothing refl
-    go Checked.Good e (Reading.Refused why) = Outcome.nothing refl
-    go Checked.Good e (Reading.Password password) =
-        let facts = renew-good port count seed s e in
-        let id = accountOf (turnId s) s .id in
-        offered-outcome (Call.Renew port count seed new text) port password (newRoom id count seed new) s refl (facts .0)
-        (λ p i q. not-eqb port p q) (turn-holder port s (facts .0)) (λ a. new-good id count seed new (facts .1) (facts .2))
+renew-outcome port count seed new text s =
+    checked-outcome Replied.Refused (Call.Renew port count seed new text) s (renewChecked port count seed s) _ refl
+    (λ e.
+    let passed = renew-passed port count seed s e in
+    let g = turn-good port s (passed .turn) in
+    let id = accountOf (turnId s) s .id in
+    read-outcome (Call.Renew port count seed new text) port text (λ password. newRoom id count seed new) s refl g
+    (λ p i q. not-true (eqb port p) q) (λ password. turn-holder port s g)
+    (λ password a. new-good id count seed new (passed .within) (passed .good)))
 
 -- Every call, on every table.
 pub outcome : (c : Call) (s : State) → Outcome c s (after c s)
