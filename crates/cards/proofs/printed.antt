@@ -1,2 +1,2 @@
--- What the proofs of `card_answers`' functions share.
+-- What the proofs of the functions in `printed` share.
 pub mod PrintedLines

@@ -1,10 +1,10 @@
 -- Nothing outside this crate rests on these: what its private functions promise.
 use Prim.Native.Nat.{ℕ, _+_, _-_, _<_}
 use mathlib.Core.Path.{_≡_}
-use mathlib.Core.List.{List}
-use lib.ListN.{getD}
+use mathlib.Core.List.{List, [], _∷_, _++_}
+use lib.ListN.{length, getD}
 use Rattle.refusal.specs.declared.Written.{Written}
-use Rattle.text.specs.Put.{Writes}
+use Rattle.text.specs.Put.{Put, Writes}
 use Rattle.password.specs.Password.{Algorithm, password}
 use Rattle.cards.specs.CardLines.{cardText}
 
@@ -19,3 +19,11 @@ abbrev pub Walked : ℕ → ℕ → ℕ → List ℕ → List ℕ → Written �
 Walked p n k b b′ r =
     (phrase seed : List ℕ) → p ≡ password Algorithm.md5 phrase seed (n - (k - 1))
     → Writes (cardText (password Algorithm.md5 phrase seed) n k) b b′ r
+
+-- a writer was to write some text with room for one byte more, and left b₁
+abbrev pub RoomAfter : Written → List ℕ → Type 0
+RoomAfter answer b₁ = (t : List ℕ) × (b : List ℕ) × (length t < length b) × Writes t b b₁ answer
+
+-- whatever that text was, the byte stands after it
+abbrev pub PutAfter : Written → ℕ → List ℕ → List ℕ → ℕ → Type 0
+PutAfter answer last b₁ b′ n = (t b : List ℕ) → length t < length b → Writes t b b₁ answer → Put (t ++ last ∷ []) b b′ n

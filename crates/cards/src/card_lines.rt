@@ -7,6 +7,7 @@ ghost use Rattle.text.specs.Put.{Put, Writes};
 ghost use Rattle.hex.specs.Hex.{hexOf};
 ghost use Rattle.sixwords.specs.Spelling.{wordsOf};
 ghost use Rattle.text.specs.Counts.{widthOf};
+ghost use Rattle.cards.specs.Inside.{RoomAfter, PutAfter};
 ghost use Rattle.cards.specs.CardLines.{lineOf, cardText, at as passwordAt};
 use hex::write_hex;
 use refusal::Refusal;
@@ -16,16 +17,25 @@ use sixwords::spelling::write_words;
 use text::counts::put_count_and;
 use text::counts::width;
 
+// One byte after the text that a writer wrote. The writer had room for both.
+fn put_after(buf: &mut [u8], answer: Written, last: u8) -> usize
+    requires { ⌜ RoomAfter answer (now buf) ⌝ }
+    ensures { λ r. ⌜ PutAfter answer last (now (buf .entry)) (now (buf .exit)) r ⌝ }
+{
+    let Written::Wrote(n) = answer else {
+        return 0;
+    };
+    buf[n] = last;
+    n + 1
+}
+
 // A password in hex and a space.
 fn put_hex_space(buf: &mut [u8], p: u64) -> usize
     requires { ⌜ 17 ≤ length (now buf) ⌝ }
     ensures { λ r. ⌜ Put (hexOf p ++ 32 ∷ []) (now (buf .entry)) (now (buf .exit)) r ⌝ }
 {
-    let Written::Wrote(n) = write_hex(p, buf) else {
-        return 0;
-    };
-    buf[n] = b' ';
-    n + 1
+    let answer = write_hex(p, buf);
+    put_after(buf, answer, b' ')
 }
 
 // A password in words and a newline.
@@ -33,11 +43,8 @@ fn put_words_newline(buf: &mut [u8], p: u64) -> usize
     requires { ⌜ length (wordsOf p) + 1 ≤ length (now buf) ⌝ }
     ensures { λ r. ⌜ Put (wordsOf p ++ 10 ∷ []) (now (buf .entry)) (now (buf .exit)) r ⌝ }
 {
-    let Written::Wrote(n) = write_words(p, buf) else {
-        return 0;
-    };
-    buf[n] = b'\n';
-    n + 1
+    let answer = write_words(p, buf);
+    put_after(buf, answer, b'\n')
 }
 
 // A password in hex and in words.

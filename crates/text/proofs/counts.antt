@@ -1,2 +1,2 @@
--- What the proofs of `counts`' functions share.
+-- What the proofs of the functions in `counts` share.
 pub mod CountNumbers

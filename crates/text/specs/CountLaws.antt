@@ -1,12 +1,12 @@
 -- Laws of counts: what a count that is read says, and how long a written one is.
-use Prim.Native.Nat.{ℕ, _^_, _≤_}
+use Prim.Native.Nat.{ℕ, _+_, _^_, _≤_}
 use mathlib.Core.Path.{_≡_, refl, ap₂}
 use mathlib.Core.Bool.{Bool, true, false, cond, not, _&&_}
-use mathlib.Core.List.{List, [], _∷_}
+use mathlib.Core.List.{List, [], _∷_, _++_}
 use native.Mathlib.Omega.{arith}
 use native.Mathlib.Nat.{pow-le-pow-right}
 use lib.Dec.{leb, ltb}
-use lib.ListN.{length}
+use lib.ListN.{length, length-append}
 use borrow.Author.Tests.{leb-true, lt-ltb}
 use Rattle.text.specs.Kinds.{isDigit}
 use Rattle.text.specs.Digits.{digitValue, numberOf}
@@ -67,3 +67,7 @@ width-few n =
 
 pub length-decimal : (n : ℕ) → length (decimalOf n) ≡ widthOf n
 length-decimal n = length-digits 10 (widthOf n) n
+
+-- and with one byte after it
+pub length-count : (n last : ℕ) → length (decimalOf n ++ last ∷ []) ≡ widthOf n + 1
+length-count n last = simp length-append (omega (arith, length-decimal n))

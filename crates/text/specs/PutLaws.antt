@@ -17,6 +17,10 @@ use Rattle.text.specs.Put.{front, Put, Writes}
 pub length-front : (t b : List ℕ) → length t ≤ length b → length (front t b) ≡ length b
 length-front t b h = simp (length-append, length-drop) (omega arith)
 
+-- a text at the front lies within the buffer: a rule for `omega`, which then knows of each writer's count that it is within what was lent
+pub front-within : (t b b′ : List ℕ) → b′ ≡ front t b → length t ≤ length b′
+front-within t b b′ e = omega (arith, simp (length-append, length-drop) at (ap length e))
+
 -- past a text at the front lies what lay there before
 pub drop-front : (t b : List ℕ) → drop (length t) (front t b) ≡ drop (length t) b
 drop-front t b = drop-at t (drop (length t) b) (length t) refl
@@ -89,10 +93,23 @@ pub short-writes : (t b : List ℕ) → length b < length t → Writes t b b (Wr
 short-writes t b h =
     (sym (ap (λ (e : Bool). cond e (Written.Wrote (length t)) (Written.Refused Refusal.BufferShort)) (lt-leb (length t) (length b) h)), refl)
 
--- the bytes that a writer reports are the text
-pub written-front : (t b b′ : List ℕ) (n : ℕ) → Writes t b b′ (Written.Wrote n) → take n b′ ≡ t
-written-front t b b′ n w = ap (take n) (w .1) ∙ take-at t (drop (length t) b) n (count (leb (length t) (length b)) (w .0))
+-- a writer that reports n bytes has put the text
+pub wrote-put : (t b b′ : List ℕ) (n : ℕ) → Writes t b b′ (Written.Wrote n) → Put t b b′ n
+wrote-put t b b′ n w = (count (leb (length t) (length b)) (w .0), w .1)
   where
-    count : (e : Bool) → Written.Wrote n ≡ cond e (Written.Wrote (length t)) (Written.Refused Refusal.BufferShort) → length t ≡ n
+    count : (e : Bool) → Written.Wrote n ≡ cond e (Written.Wrote (length t)) (Written.Refused Refusal.BufferShort) → n ≡ length t
     count true q = cc
     count false q = let z : _≡_ {A = ℕ} 0 1 = cc in absurd (omega arith)
+
+-- where there is room nothing is refused
+pub has-room : (t b b′ : List ℕ) (why : Refusal) → length t ≤ length b → Writes t b b′ (Written.Refused why) → ⊥
+has-room t b b′ why h w =
+    let room = le-leb (length t) (length b) h in
+    let z : _≡_ {A = ℕ} 0 1 = cc (ap (λ (e : Bool). cond e (Written.Wrote (length t)) (Written.Refused Refusal.BufferShort)) room) in
+    omega arith
+
+-- the bytes that a writer reports are the text
+pub written-front : (t b b′ : List ℕ) (n : ℕ) → Writes t b b′ (Written.Wrote n) → take n b′ ≡ t
+written-front t b b′ n w =
+    let p = wrote-put t b b′ n w in
+    ap (take n) (p .1) ∙ take-at t (drop (length t) b) n (sym (p .0))

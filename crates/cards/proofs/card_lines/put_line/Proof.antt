@@ -1,16 +1,14 @@
 -- `put_line` meets its promise: the count, then the password into the rest.
 use borrow.Author.Needs.{needs}
-use Prim.Native.Nat.{ℕ, _+_, _≤_}
+use Prim.Native.Nat.{ℕ}
 use mathlib.Core.Path.{_≡_}
 use mathlib.Core.List.{[], _∷_, _++_, append-assoc}
 use native.Mathlib.Omega.{arith}
-use lib.ListN.{length, length-append}
-use Rattle.text.specs.PutLaws.{then-put, length-rest-lent}
+use Rattle.text.specs.PutLaws.{then-put, front-within}
 use Rattle.hex.specs.Hex.{hexOf}
-use Rattle.hex.specs.Laws.{hex-length}
 use Rattle.sixwords.specs.Spelling.{wordsOf}
 use Rattle.text.specs.Counts.{decimalOf}
-use Rattle.text.specs.CountLaws.{length-decimal}
+use Rattle.text.specs.CountLaws.{length-count}
 use Rattle.cards.specs.CardLines.{lineOf}
 use Rattle.cards.proofs.card_lines.put_line.Statement.{statement}
 use Rattle.cards.proofs.card_lines.put_line.Tie as tie
@@ -19,16 +17,6 @@ use Rattle.cards.proofs.card_lines.put_line.Tie as tie
 parts : (count p : ℕ) → (decimalOf count ++ 32 ∷ []) ++ ((hexOf p ++ 32 ∷ []) ++ (wordsOf p ++ 10 ∷ [])) ≡ lineOf count p
 unfolding lineOf
 parts count p = simp append-assoc
-
-length-password : (p : ℕ) → length ((hexOf p ++ 32 ∷ []) ++ (wordsOf p ++ 10 ∷ [])) ≡ length (wordsOf p) + 18
-length-password p = simp length-append (omega (arith, hex-length p))
-
--- after the count there is room for the password
-room : (c : tie.After-put-count-and) → c .put-count-and .result + length (wordsOf (c .before .before .before .args .p)) + 18
-    ≤ length (c .put-count-and .last .0)
-room c =
-    let count = c .before .before .before .args .count in
-    omega (arith, length-append (decimalOf count) (32 ∷ []), length-decimal count, c .put-count-and .ensures .0)
 
 returns : tie.Need-returns
 returns c =
@@ -44,13 +32,10 @@ put-line-spec =
     tie.close
     (tie.spec
     (λ c κs. search needs)
-    (λ c. omega (arith, room (c .before .before)))
-    (λ c. omega (arith, room (c .before .before)))
+    (λ c. omega (arith, front-within))
+    (λ c. omega (arith, front-within))
     (λ c. search needs)
-    (λ c κs. rw length-rest-lent (omega (arith, room (c .before .before .before))))
-    (λ c.
-    let call = c .before .before in
-    let first = call .before .before .before .before in
-    omega (arith, room first, call .put-password .ensures .0, length-password (first .before .before .before .args .p)))
+    (λ c κs. omega (arith, length-count (c .before .before .before .before .before .before .args .count) 32))
+    (λ c. omega (arith, front-within))
     (λ c. search needs)
     returns)

@@ -7,7 +7,7 @@ use native.Mathlib.Omega.{arith}
 use lib.ListN.{length, getD}
 use borrow.Rule.Slice.PartMut.{same-len-mid}
 use Rattle.text.specs.Put.{Put}
-use Rattle.text.specs.PutLaws.{then-put, length-rest-lent}
+use Rattle.text.specs.PutLaws.{then-put, front-within}
 use Rattle.sixwords.specs.Spelling.{wordsOf}
 use Rattle.text.specs.Counts.{widthOf}
 use Rattle.cards.specs.CardLines.{lineOf, cardText, at as passwordAt}
@@ -60,13 +60,6 @@ room c =
           (loop .at) (c .before .loop-test .taken) (start .pre .1) (loop .inv .2 .0),
     )
 
-add-at : tie.Need-add-at Inv-loop μ-loop
-add-at c =
-    let call = c .before .before in
-    let loop = call .before .before .before .before .loop in
-    let a = call .before .before .before .before .before .before .args in
-    omega (arith, room (call .before .before), call .put-line .ensures .0, length-line (a .n - loop .i) (getD (a .ps .now) (loop .i) 0))
-
 loop-again : tie.Need-loop-again Inv-loop μ-loop
 loop-again c =
     let call = c .before .before in
@@ -96,12 +89,12 @@ put-lines-spec =
     (λ c. search needs)
     (λ c. omega arith)
     (λ c. omega arith)
-    (λ c. omega (arith, room c))
-    (λ c. omega (arith, room c))
+    (λ c. omega (arith, front-within))
+    (λ c. omega (arith, front-within))
     (λ c. search needs)
     (λ c. omega arith)
-    (λ c κs. rw length-rest-lent (omega (arith, room (c .before))))
-    add-at
+    (λ c κs. omega (arith, room (c .before)))
+    (λ c. omega (arith, front-within))
     (λ c. omega arith)
     (λ c. omega arith)
     loop-again

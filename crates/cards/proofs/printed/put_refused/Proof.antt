@@ -1,33 +1,23 @@
 -- `put_refused` meets its promise: the word and a space, then the number and the newline into the rest.
 use borrow.Author.Needs.{needs}
-use Prim.Native.Nat.{ℕ, _+_, _≤_}
+use Prim.Native.Nat.{ℕ}
 use mathlib.Core.Path.{_≡_, sym, subst}
 use mathlib.Core.List.{List, [], _∷_, _++_, append-assoc}
 use native.Mathlib.Omega.{arith}
-use lib.ListN.{length, length-append}
 use Rattle.refusal.specs.declared.Refusal.{Refusal}
 use Rattle.refusal.specs.declared.Listing.{Listing}
 use Rattle.refusal.specs.Numbers.{listingOf}
 use Rattle.text.specs.Put.{Put}
-use Rattle.text.specs.PutLaws.{then-put, length-rest-lent}
+use Rattle.text.specs.PutLaws.{then-put, front-within}
 use Rattle.text.specs.Quoted.{codes}
 use Rattle.text.specs.Counts.{decimalOf}
-use Rattle.text.specs.CountLaws.{length-decimal, width-few}
+use Rattle.text.specs.CountLaws.{width-few}
 use Rattle.cards.specs.Printed.{refusedText}
 use Rattle.cards.proofs.printed.put_refused.Statement.{statement}
 use Rattle.cards.proofs.printed.put_refused.Tie as tie
 
--- after the word there is room for the number and the newline
-after-word : (c : tie.After-copy) → c .copy .result + 5 ≤ length (c .copy .last .0)
-after-word c = omega (arith, c .copy .ensures .0)
-
 abbrev number : tie.After-copy → ℕ
 number c = c .before .before .before .listing-of .result .0
-
-few : (c : tie.After-put-count-and) → c .put-count-and .result ≤ 5
-few c =
-    let n = number (c .before .before .before .before) in
-    omega (arith, c .put-count-and .ensures .0, length-append (decimalOf n) (10 ∷ []), length-decimal n, width-few n)
 
 -- the two parts are the refusal's text
 refused : (why : Refusal) (listing : Listing) (b b′ : List ℕ) (n : ℕ) → listing ≡ listingOf why
@@ -56,7 +46,7 @@ put-refused-spec =
     (λ c. search needs)
     (λ c. search needs)
     (λ c. search needs)
-    (λ c κs. rw length-rest-lent (omega (arith, after-word (c .before .before .before), width-few (number (c .before .before .before)))))
-    (λ c. omega (arith, after-word (c .before .before .before .before .before .before), few (c .before .before)))
+    (λ c κs. omega (arith, width-few (number (c .before .before .before))))
+    (λ c. omega (arith, front-within))
     (λ c. search needs)
     returns)

@@ -9,7 +9,7 @@ returns : tie.Need-returns
 returns c =
     let call = c .before .before in
     let a = call .before .before .before .before .args in
-    then-byte (a .t .now) (a .buf .now) (call .copy .last .0) _ (a .last) (omega (arith, call .copy .ensures .0)) (call .copy .ensures)
+    then-byte (a .t .now) (a .buf .now) _ _ (a .last) (omega arith) (call .copy .ensures)
 
 pub put-and-spec : {M : Type 1} → statement M
 put-and-spec =

@@ -1,2 +1,0 @@
--- What the proofs of `card_lines`' functions share.
-pub mod Wrote
