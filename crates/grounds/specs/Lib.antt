@@ -1,6 +1,5 @@
 -- What the pages of `demands` rest on. Listed has the words of the first demand; the rest is how the demands are proved.
 pub mod Listed
-pub mod Good
 pub mod RoomsChanged
 pub mod Outcome
 pub mod Standing

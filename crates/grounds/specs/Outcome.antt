@@ -26,10 +26,9 @@ use Rattle.table.specs.Steps as Steps
 use Rattle.table.specs.Steps.{refused, replyRefused, done, enrolChecked, joinChecked, leaveChecked, turnChecked, renewChecked, offered, read}
 use Rattle.reached.specs.Calls.{Call, after}
 use Rattle.reached.specs.InTurn.{tickOf, quiet}
-use Rattle.reached.specs.Each.{Each}
+use Rattle.refusal.specs.Each.{Each}
 use Rattle.reached.specs.Made.{isKept, AccountGood}
-use Rattle.refusal.specs.Laws.{must-good}
-use Rattle.grounds.specs.Good.{all-good}
+use Rattle.refusal.specs.Laws.{must-good, Good, each-good}
 use Rattle.grounds.specs.RoomsChanged.{there-parts, holder-id}
 
 -- What the checks of Challenge, Reply and Renew establish.
@@ -108,8 +107,8 @@ unfolding Steps.enrol
 enrol-outcome id count seed password s = go (enrolChecked id count seed s) refl
   where
     good : enrolChecked id count seed s ≡ Checked.Good
-        → Each (λ (check : Checked). check ≡ Checked.Good) (idGiven id ∷ countWithin count ∷ seedChecked seed ∷ idNew id s ∷ roomLeft s ∷ [])
-    good e = all-good (idGiven id ∷ countWithin count ∷ seedChecked seed ∷ idNew id s ∷ roomLeft s ∷ []) (unfold enrolChecked in e)
+        → Each Good (idGiven id ∷ countWithin count ∷ seedChecked seed ∷ idNew id s ∷ roomLeft s ∷ [])
+    good e = each-good (idGiven id ∷ countWithin count ∷ seedChecked seed ∷ idNew id s ∷ roomLeft s ∷ []) (unfold enrolChecked in e)
 
     go : (k : Checked) → enrolChecked id count seed s ≡ k
         → Outcome (Call.Enrol id count seed password) s
@@ -136,7 +135,7 @@ pub join-good : (port id : ℕ) (s : State) → joinChecked port id s ≡ Checke
     → (port ≤ 3) × (isThere id s ≡ true) × (standsIn port (s .line) ≡ false) × (portOf port s .shut ≡ 0)
 unfolding joinChecked
 join-good port id s e =
-    let facts = all-good (portKnown port ∷ accountThere id s ∷ notInLine port s ∷ portOpen port s ∷ notUsedUp id s ∷ []) e in (
+    let facts = each-good (portKnown port ∷ accountThere id s ∷ notInLine port s ∷ portOpen port s ∷ notUsedUp id s ∷ []) e in (
       leb-true port 3 (must-good _ _ (facts .0)),
       must-good _ _ (facts .1 .0),
       not-true (standsIn port (s .line)) (must-good _ _ (facts .1 .1 .0)),
@@ -165,7 +164,7 @@ leave-outcome port s = go (leaveChecked port s)
 pub turn-good : (port : ℕ) (s : State) → turnChecked port s ≡ Checked.Good → TurnGood port s
 unfolding turnChecked
 turn-good port s e =
-    let facts = all-good (portKnown port ∷ inLine port s ∷ inFront port s ∷ accountThere (turnId s) s ∷ notUsedUp (turnId s) s ∷ []) e in
+    let facts = each-good (portKnown port ∷ inLine port s ∷ inFront port s ∷ accountThere (turnId s) s ∷ notUsedUp (turnId s) s ∷ []) e in
     record {
       known = leb-true port 3 (must-good _ _ (facts .0));
       front = must-good _ _ (facts .1 .1 .0);
@@ -217,7 +216,7 @@ renew-good : (port count : ℕ) (seed : List ℕ) (s : State) → renewChecked p
     → TurnGood port s × (countWithin count ≡ Checked.Good) × (seedChecked seed ≡ Checked.Good)
 unfolding renewChecked
 renew-good port count seed s e =
-    let facts = all-good (turnChecked port s ∷ countWithin count ∷ seedChecked seed ∷ seedNew seed (turnId s) s ∷ []) e in
+    let facts = each-good (turnChecked port s ∷ countWithin count ∷ seedChecked seed ∷ seedNew seed (turnId s) s ∷ []) e in
     (turn-good port s (facts .0), facts .1 .0, facts .1 .1 .0)
 
 renew-outcome : (port count : ℕ) (seed new text : List ℕ) (s : State)

@@ -10,7 +10,7 @@ use lib.ListN.{length, getD, set, length-set}
 use lib.Seq.{getD-set-same}
 use Rattle.text.specs.Tests.{both}
 use Rattle.accounts.specs.Rooms.{Room, free, placeOf, holds}
-use Rattle.reached.specs.Each.{Each}
+use Rattle.refusal.specs.Each.{Each}
 
 -- The account with an id that is there has that id.
 pub holder-id : (id : ℕ) (rooms : List Room) → placeOf id rooms < length rooms → getD rooms (placeOf id rooms) free .id ≡ id

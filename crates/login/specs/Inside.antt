@@ -5,8 +5,7 @@ use mathlib.Core.List.{[], _∷_}
 use lib.Dec.{eqb, ltb}
 use Rattle.refusal.specs.declared.Refusal.{Refusal}
 use Rattle.refusal.specs.declared.Checked.{Checked}
-use Rattle.refusal.specs.Checks.{must}
-use Rattle.accounts.specs.Accounts.{inOrder}
+use Rattle.refusal.specs.Checks.{must, inOrder}
 
 -- Enrol's checks, by their tests and by what is found of the values: 50, then 51, 23, 24, then 52, 53.
 abbrev pub enrolOrder : Bool → Checked → Bool → Bool → Checked

@@ -25,7 +25,7 @@ use Rattle.table.specs.TableChecks.{roomLeft}
 use Rattle.table.specs.Steps as steps
 use Rattle.table.specs.Steps.{enrolChecked, joinChecked, leaveChecked, turnChecked, renewChecked}
 use Rattle.reached.specs.Calls.{Call, after, answer, run, checkedAnswer, repliedAnswer, writtenAnswer}
-use Rattle.table.specs.Passed.{
+use Rattle.table.specs.StepLaws.{
   enrol-passed,
   enrol-refused,
   enrol-done,

@@ -5,7 +5,6 @@ pub mod RoomsFound
 pub mod EqualLaws
 pub mod Laws
 pub mod Examples
-pub mod Each
 pub mod Made
 pub mod InTurn
 pub mod Day

@@ -6,15 +6,15 @@ use mathlib.Core.List.{List, [], _∷_}
 use lib.Dec.{eqb, ltb}
 use Rattle.refusal.specs.declared.Refusal.{Refusal}
 use Rattle.refusal.specs.declared.Checked.{Checked}
-use Rattle.refusal.specs.Checks.{unless}
+use Rattle.refusal.specs.Checks.{unless, inOrder}
 use Rattle.password.specs.PhraseAndSeed.{seedChecked}
 use Rattle.accounts.specs.Rooms.{Room, free, holds}
-use Rattle.accounts.specs.Accounts.{inOrder, countWithin, valuesChecked, proposed}
+use Rattle.accounts.specs.Accounts.{countWithin, valuesChecked, proposed}
 use Rattle.accounts.specs.Laws.{values-enrolled}
 use Rattle.table.specs.Table.{State}
 use Rattle.table.specs.TableChecks.{idGiven, idNew, roomLeft}
 use Rattle.table.specs.Steps.{enrolChecked}
-use Rattle.table.specs.Passed.{both-passed}
+use Rattle.table.specs.StepLaws.{both-passed}
 use Rattle.login.specs.Inside.{enrolOrder, enrolFound}
 
 module _ (id : ℕ) (values : Checked) (place room : ℕ) where

@@ -6,7 +6,7 @@ use Rattle.accounts.specs.Rooms.{free}
 use Rattle.accounts.specs.Accounts.{Proposal, newRoom, valuesChecked}
 use Rattle.table.specs.Table.{view, withRoom}
 use Rattle.table.specs.Steps.{enrolChecked}
-use Rattle.table.specs.Passed.{enrol-refused, enrol-done}
+use Rattle.table.specs.StepLaws.{enrol-refused, enrol-done}
 use Rattle.login.specs.Inside.{enrolFound}
 use Rattle.login.proofs.enrolling.Order.{enrol-found, enrol-room}
 use Rattle.login.proofs.enrolling.enrol.Statement.{statement}

@@ -1,38 +1,22 @@
--- What the checks of each call say where they found nothing wrong, and each call's two ways: a refusal, or what it does.
+-- Laws of the written steps: what a call's checks say where they found nothing wrong, and each call's two ways, a refusal or what it does.
 use Prim.Native.Nat.{ℕ, _-_}
-use mathlib.Core.Path.{_≡_, refl}
-use mathlib.Core.Bool.{Bool, true, false, not, _&&_}
-use mathlib.Core.List.{List}
-use native.Mathlib.Omega.{arith}
+use mathlib.Core.Path.{_≡_}
+use mathlib.Core.Bool.{true, false, not, _&&_}
+use mathlib.Core.List.{List, [], _∷_}
 use lib.Dec.{eqb, leb, ltb}
 use Rattle.refusal.specs.declared.Refusal.{Refusal}
 use Rattle.refusal.specs.declared.Checked.{Checked}
 use Rattle.refusal.specs.declared.Written.{Written}
-use Rattle.refusal.specs.Checks.{unless}
+use Rattle.refusal.specs.Laws.{must-good, each-good}
 use Rattle.password.specs.PhraseAndSeed.{seedChecked}
 use Rattle.challenge.specs.Challenges.{challengeWritten}
-use Rattle.refusal.specs.Checks.{must}
 use Rattle.line.specs.Line.{standsIn, joined, left, removed}
 use Rattle.accounts.specs.Rooms.{free, holds, placeOf}
-use Rattle.accounts.specs.Accounts.{newRoom}
-use Rattle.table.specs.Table.{State, isThere, accountOf, portOf, hasTurn, turnId, withRoom, withLine}
-use Rattle.table.specs.TableChecks.{seedNew}
+use Rattle.accounts.specs.Accounts.{newRoom, countWithin}
+use Rattle.table.specs.Table.{State, isThere, accountOf, hasTurn, turnId, withRoom, withLine}
+use Rattle.table.specs.TableChecks.{idGiven, idNew, roomLeft, accountThere, portKnown, notUsedUp, inLine, inFront, seedNew}
 use Rattle.table.specs.Steps as steps
 use Rattle.table.specs.Steps.{enrolChecked, joinChecked, leaveChecked, turnChecked, renewChecked}
-
--- A check and those behind it.
-pub both-passed : (check rest : Checked) → unless Checked.Refused check rest ≡ Checked.Good → (check ≡ Checked.Good) × (rest ≡ Checked.Good)
-both-passed Checked.Good rest e = (refl, e)
-both-passed (Checked.Refused why) rest e = let z : _≡_ {A = ℕ} 0 1 = cc in absurd (omega arith)
-
--- The last check.
-pub last-passed : (check : Checked) → unless Checked.Refused check Checked.Good ≡ Checked.Good → check ≡ Checked.Good
-last-passed check e = both-passed check Checked.Good e .0
-
--- A test that must hold.
-pub test-passed : (test : Bool) (why : Refusal) → must test why ≡ Checked.Good → test ≡ true
-test-passed true why e = refl
-test-passed false why e = let z : _≡_ {A = ℕ} 0 1 = cc in absurd (omega arith)
 
 -- ---- Enrol
 
@@ -47,16 +31,13 @@ module _ (id count : ℕ) (seed : List ℕ) (s : State) where
   pub enrol-passed : enrolChecked id count seed s ≡ Checked.Good → EnrolPassed id count seed s
   unfolding enrolChecked
   enrol-passed e =
-      let a = both-passed _ _ e in
-      let b = both-passed _ _ (a .1) in
-      let c = both-passed _ _ (b .1) in
-      let d = both-passed _ _ (c .1) in
+      let found = each-good (idGiven id ∷ countWithin count ∷ seedChecked seed ∷ idNew id s ∷ roomLeft s ∷ []) e in
       record {
-        given = test-passed _ _ (a .0);
-        within = test-passed _ _ (b .0);
-        good = c .0;
-        new = test-passed _ _ (d .0);
-        room = test-passed _ _ (last-passed _ (d .1));
+        given = must-good _ _ (found .0);
+        within = must-good _ _ (found .1 .0);
+        good = found .1 .1 .0;
+        new = must-good _ _ (found .1 .1 .1 .0);
+        room = must-good _ _ (found .1 .1 .1 .1 .0);
       }
 
   pub enrol-refused : (password : List ℕ) (why : Refusal) → enrolChecked id count seed s ≡ Checked.Refused why
@@ -83,29 +64,7 @@ module _ (id : ℕ) (s : State) where
 
 -- ---- Join
 
-pub record JoinPassed (port id : ℕ) (s : State) : Type 0 where
-  pub known : leb port 3 ≡ true
-  pub there : isThere id s ≡ true
-  pub out : not (standsIn port (s .line)) ≡ true
-  pub unshut : eqb (portOf port s .shut) 0 ≡ true
-  pub unused : ltb 1 (accountOf id s .count) ≡ true
-
 module _ (port id : ℕ) (s : State) where
-  pub join-passed : joinChecked port id s ≡ Checked.Good → JoinPassed port id s
-  unfolding joinChecked
-  join-passed e =
-      let a = both-passed _ _ e in
-      let b = both-passed _ _ (a .1) in
-      let c = both-passed _ _ (b .1) in
-      let d = both-passed _ _ (c .1) in
-      record {
-        known = test-passed _ _ (a .0);
-        there = test-passed _ _ (b .0);
-        out = test-passed _ _ (c .0);
-        unshut = test-passed _ _ (d .0);
-        unused = test-passed _ _ (last-passed _ (d .1));
-      }
-
   pub join-refused : (why : Refusal) → joinChecked port id s ≡ Checked.Refused why → steps.join port id s ≡ steps.refused s why
   unfolding steps.join
   join-refused why e = rw e
@@ -117,12 +76,6 @@ module _ (port id : ℕ) (s : State) where
 -- ---- Leave
 
 module _ (port : ℕ) (s : State) where
-  pub leave-passed : leaveChecked port s ≡ Checked.Good → (leb port 3 ≡ true) × (standsIn port (s .line) ≡ true)
-  unfolding leaveChecked
-  leave-passed e =
-      let a = both-passed _ _ e in
-      (test-passed _ _ (a .0), test-passed _ _ (last-passed _ (a .1)))
-
   pub leave-refused : (why : Refusal) → leaveChecked port s ≡ Checked.Refused why → steps.leave port s ≡ steps.refused s why
   unfolding steps.leave
   leave-refused why e = rw e
@@ -150,16 +103,13 @@ module _ (port : ℕ) (s : State) where
   pub turn-passed : turnChecked port s ≡ Checked.Good → TurnPassed port s
   unfolding turnChecked
   turn-passed e =
-      let a = both-passed _ _ e in
-      let b = both-passed _ _ (a .1) in
-      let c = both-passed _ _ (b .1) in
-      let d = both-passed _ _ (c .1) in
+      let found = each-good (portKnown port ∷ inLine port s ∷ inFront port s ∷ accountThere (turnId s) s ∷ notUsedUp (turnId s) s ∷ []) e in
       record {
-        known = test-passed _ _ (a .0);
-        inside = test-passed _ _ (b .0);
-        front = test-passed _ _ (c .0);
-        there = test-passed _ _ (d .0);
-        unused = test-passed _ _ (last-passed _ (d .1));
+        known = must-good _ _ (found .0);
+        inside = must-good _ _ (found .1 .0);
+        front = must-good _ _ (found .1 .1 .0);
+        there = must-good _ _ (found .1 .1 .1 .0);
+        unused = must-good _ _ (found .1 .1 .1 .1 .0);
       }
 
   pub challenge-refused : (room : ℕ) (why : Refusal) → turnChecked port s ≡ Checked.Refused why → steps.challenge port room s ≡ Written.Refused why
@@ -183,10 +133,8 @@ module _ (port count : ℕ) (seed : List ℕ) (s : State) where
   pub renew-passed : renewChecked port count seed s ≡ Checked.Good → RenewPassed port count seed s
   unfolding renewChecked
   renew-passed e =
-      let a = both-passed _ _ e in
-      let b = both-passed _ _ (a .1) in
-      let c = both-passed _ _ (b .1) in
-      record { turn = a .0; within = test-passed _ _ (b .0); good = c .0; new = last-passed _ (c .1) }
+      let found = each-good (turnChecked port s ∷ countWithin count ∷ seedChecked seed ∷ seedNew seed (turnId s) s ∷ []) e in
+      record { turn = found .0; within = must-good _ _ (found .1 .0); good = found .1 .1 .0; new = found .1 .1 .1 .0 }
 
   pub renew-refused : (new text : List ℕ) (why : Refusal) → renewChecked port count seed s ≡ Checked.Refused why
       → steps.renew port count seed new text s ≡ steps.replyRefused s why
