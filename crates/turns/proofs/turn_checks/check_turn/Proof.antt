@@ -14,7 +14,8 @@ unfolding frontChecked
 returns c =
     let placed = c .before .before in
     let refused = c .enum-told .given .1 in
-    refused ∙ first-refused Checked.Refused _ _ (inOrder (accountChecks (roomOf (placed .before .args .account)))) (sym (placed .check-place .ensures) ∙ refused)
+    refused
+    ∙ first-refused Checked.Refused _ _ (inOrder (accountChecks (roomOf (placed .before .args .account)))) (sym (placed .check-place .ensures) ∙ refused)
 
 returns-2 : tie.Need-returns-2
 unfolding frontChecked
