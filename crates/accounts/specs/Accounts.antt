@@ -7,10 +7,9 @@ use Rattle.text.specs.Tests.{same}
 use Rattle.text.specs.Kinds.{lowerOf}
 use Rattle.refusal.specs.declared.Refusal.{Refusal}
 use Rattle.refusal.specs.declared.Checked.{Checked}
-use Rattle.refusal.specs.Checks.{unless}
+use Rattle.refusal.specs.Checks.{must, unless, inOrder}
 use Rattle.password.specs.PhraseAndSeed.{seedChecked}
 use Rattle.password.specs.Password.{numberOf}
-use Rattle.refusal.specs.Checks.{must}
 use Rattle.accounts.specs.Rooms.{Room, roomOf, free}
 use Rattle.accounts.specs.declared.Proposed.{Proposed}
 
@@ -22,11 +21,6 @@ newRoom id count seed password =
 -- Reply, on a match: "store the reply, lower the count by 1".
 abbrev pub lowered : Room → ℕ → Room
 lowered room password = record { id = room .id; seed = room .seed; count = room .count - 1; password = password }
-
--- "Checks run in the order given": the first refusal.
-abbrev pub inOrder : List Checked → Checked
-inOrder [] = Checked.Good
-inOrder (check ∷ checks) = unless Checked.Refused check (inOrder checks)
 
 -- 51: "count not 2 to 9,999"
 abbrev pub countWithin : ℕ → Checked

@@ -6,11 +6,11 @@ use native.Mathlib.Omega.{arith}
 use lib.ListN.{length, set}
 use Rattle.text.specs.Tests.{same}
 use Rattle.refusal.specs.declared.Checked.{Checked}
-use Rattle.refusal.specs.Checks.{unless}
+use Rattle.refusal.specs.Checks.{unless, inOrder}
 use Rattle.password.specs.PhraseAndSeed.{seedChecked}
 use Rattle.password.specs.PhraseAndSeedLaws.{good-seed}
 use Rattle.accounts.specs.Rooms.{free}
-use Rattle.accounts.specs.Accounts.{inOrder, countWithin, seedOther, valuesChecked}
+use Rattle.accounts.specs.Accounts.{countWithin, seedOther, valuesChecked}
 
 -- New values beside a free room, 63 is never given: a good seed isn't empty.
 other : (seed : List ℕ) → seedChecked seed ≡ Checked.Good → seedOther seed free ≡ Checked.Good

@@ -9,7 +9,7 @@ use borrow.Author.Tests.{leb-true}
 use Rattle.refusal.specs.declared.Refusal.{Refusal}
 use Rattle.refusal.specs.declared.Checked.{Checked}
 use Rattle.refusal.specs.Checks.{unless}
-use Rattle.refusal.specs.Laws.{must-good}
+use Rattle.refusal.specs.Laws.{must-good, both-good}
 use Rattle.text.specs.Tests.{both}
 use Rattle.password.specs.PhraseAndSeed.{phraseChecked}
 use Rattle.challenge.specs.declared.reading.Challenge.{Challenge}
@@ -23,11 +23,6 @@ lines-good k n e =
     let outer = both (leb 1 k && leb k 99) (leb k n) e in
     let inner = both (leb 1 k) (leb k 99) (outer .0) in
     (leb-true 1 k (inner .0), leb-true k 99 (inner .1), leb-true k n (outer .1))
-
--- two checks that find nothing wrong
-both-good : (a b : Checked) → unless Checked.Refused a b ≡ Checked.Good → (a ≡ Checked.Good) × (b ≡ Checked.Good)
-both-good Checked.Good b e = (refl, e)
-both-good (Checked.Refused why) b e = let z : _≡_ {A = ℕ} 0 1 = cc in absurd (omega arith)
 
 -- a challenge with nothing wrong is read
 pub is-read : (c : Challenge) → challengeChecked c ≡ Checked.Good → (n s l u : ℕ) × (c ≡ Challenge.Read n s l u)

@@ -1,6 +1,6 @@
 -- Laws of tokens and their places, of what a challenge that is read says, and of the steps' answers.
 use Prim.Native.Nat.{ℕ, _+_, _≤_}
-use mathlib.Core.Path.{_≡_, refl, sym, _∙_, ap, ap₂}
+use mathlib.Core.Path.{_≡_, sym, _∙_, ap, ap₂}
 use mathlib.Core.Bool.{Bool, true, false}
 use mathlib.Core.List.{List}
 use native.Mathlib.Omega.{arith}
@@ -8,8 +8,7 @@ use lib.ListN.{length, take, drop, length-append, length-drop, length-map, lengt
 use lib.Seq.{length-take-le}
 use Rattle.refusal.specs.declared.Refusal.{Refusal}
 use Rattle.refusal.specs.declared.Checked.{Checked}
-use Rattle.refusal.specs.Checks.{unless}
-use Rattle.refusal.specs.Laws.{must-good}
+use Rattle.refusal.specs.Laws.{must-good, not-refused}
 use Rattle.text.specs.Quoted.{codes}
 use Rattle.text.specs.Kinds.{inToken, isBlank}
 use Rattle.text.specs.Digits.{numberOf}
@@ -68,23 +67,18 @@ unfolding opening codes
 opened-long text e = omega (arith, length-take 4 text, ap length (same-equal (take 4 text) opening e))
 
 module _ (n s l u : ℕ) where
-  -- an answer past a check that is a challenge means that the check found nothing wrong
-  past-check : (k : Checked) (next : Challenge) → unless Challenge.Refused k next ≡ Challenge.Read n s l u
-      → (k ≡ Checked.Good) × (next ≡ Challenge.Read n s l u)
-  past-check Checked.Good next e = (refl, e)
-  past-check (Checked.Refused why) next e = let z : _≡_ {A = ℕ} 0 1 = cc in absurd (omega arith)
-
   -- a challenge is read only if each step finds nothing wrong
   pub steps-good : (text : List ℕ) → challengeOf text ≡ Challenge.Read n s l u
       → (step1 text ≡ Checked.Good) × (step2 text ≡ Checked.Good) × (step3 text ≡ Checked.Good) × (step4 text ≡ Checked.Good) × (step5 text ≡ Checked.Good)
       × (found text ≡ Challenge.Read n s l u)
   unfolding challengeOf
   steps-good text e =
-      let a = past-check (step1 text) _ e in
-      let b = past-check (step2 text) _ (a .1) in
-      let c = past-check (step3 text) _ (b .1) in
-      let d = past-check (step4 text) _ (c .1) in
-      let f = past-check (step5 text) _ (d .1) in
+      let past = not-refused Challenge.Refused (Challenge.Read n s l u) (λ why f. let z : _≡_ {A = ℕ} 0 1 = cc in omega arith) in
+      let a = past (step1 text) _ e in
+      let b = past (step2 text) _ (a .1) in
+      let c = past (step3 text) _ (b .1) in
+      let d = past (step4 text) _ (c .1) in
+      let f = past (step5 text) _ (d .1) in
       (a .0, b .0, c .0, d .0, f .0, f .1)
 
   module _ (text : List ℕ) (e : challengeOf text ≡ Challenge.Read n s l u) where

@@ -15,7 +15,7 @@ use Rattle.table.specs.Table.{State}
 use Rattle.reached.specs.Calls.{Call, Answer, answer, after}
 use Rattle.reached.specs.InTurn.{Reached}
 use Rattle.grounds.specs.Listed.{isIn, listed, refusalsOf, Within, ReadWithin, ChallengeWithin, WriteWithin, Given}
-use Rattle.reached.specs.Each.{Each}
+use Rattle.refusal.specs.Each.{Each}
 use Rattle.grounds.specs.Given.{numbers-given}
 use Rattle.grounds.specs.Keeps.{made}
 use Rattle.grounds.specs.Refusing.{reading-within, call-within, generated-within, challenge-read-within, challenge-written-within, digest-within, card-within}

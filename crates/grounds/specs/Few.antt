@@ -10,7 +10,7 @@ use lib.Dec.{eqb}
 use lib.ListN.{length}
 use Rattle.line.specs.declared.Place.{Place}
 use Rattle.line.specs.Line.{Waiting, ofPort, some, standsIn, others}
-use Rattle.reached.specs.Each.{Each, each-weaker}
+use Rattle.refusal.specs.Each.{Each, each-weaker}
 use Rattle.reached.specs.Made.{Once, Standing}
 use Rattle.grounds.specs.Standing.{each-stay, once-others}
 

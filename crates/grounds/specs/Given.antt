@@ -47,7 +47,7 @@ use Rattle.table.specs.Steps.{
 }
 use Rattle.reached.specs.Calls.{Call, run}
 use Rattle.grounds.specs.Listed.{listed, callNumber, Given}
-use Rattle.reached.specs.Each.{Each, each-append}
+use Rattle.refusal.specs.Each.{Each, each-append}
 
 -- 10 and 11, 13: the generator; 12: the digest
 generator-given : Each Given (10 ∷ 11 ∷ 12 ∷ 13 ∷ [])

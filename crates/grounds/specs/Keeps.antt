@@ -19,7 +19,7 @@ use Rattle.table.specs.Steps as Steps
 use Rattle.port.specs.Port.{wrongly, rightly, cooled}
 use Rattle.reached.specs.Calls.{Call, after, run}
 use Rattle.reached.specs.InTurn.{Reached}
-use Rattle.reached.specs.Each.{Each, each-set, each-get, each-append, each-replicate, each-map, each-weaker}
+use Rattle.refusal.specs.Each.{Each, each-set, each-get, each-append, each-replicate, each-map, each-weaker}
 use Rattle.reached.specs.RoomsChanged.{there-parts, other-there, same-there}
 use Rattle.reached.specs.RoomsFound.{placed-id, once-apart, apart-once}
 use Rattle.reached.specs.Laws.{housed-after, housed-fresh}

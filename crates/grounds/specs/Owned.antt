@@ -16,7 +16,7 @@ use Rattle.table.specs.Table.{State, isThere, accountOf, isFront, idOf, hasTurn
 use Rattle.table.specs.Steps as Steps
 use Rattle.reached.specs.Calls.{Call, after, run}
 use Rattle.reached.specs.InTurn.{quiet, HasTurn}
-use Rattle.reached.specs.Each.{Each}
+use Rattle.refusal.specs.Each.{Each}
 use Rattle.reached.specs.RoomsChanged.{there-parts, other-same}
 use Rattle.reached.specs.Outcome as Outcome
 use Rattle.reached.specs.Outcome.{Outcome, outcome}

@@ -12,7 +12,7 @@ use Rattle.refusal.specs.declared.Checked.{Checked}
 use Rattle.refusal.specs.declared.Reading.{Reading}
 use Rattle.refusal.specs.declared.Written.{Written}
 use Rattle.refusal.specs.Numbers.{listingOf}
-use Rattle.refusal.specs.Checks.{unless, must}
+use Rattle.refusal.specs.Checks.{must, unless, inOrder}
 use Rattle.text.specs.Kinds.{lowerOf}
 use Rattle.text.specs.Tests.{either}
 use Rattle.text.specs.Scan.{tokens, unspaced}
@@ -53,13 +53,13 @@ use Rattle.line.specs.Line.{standsIn}
 use Rattle.table.specs.declared.Replied.{Replied}
 use Rattle.accounts.specs.Rooms.{Room, holds}
 use Rattle.table.specs.Table.{State, isThere, accountOf, portOf, hasTurn, turnId}
-use Rattle.accounts.specs.Accounts.{inOrder, countWithin, lowered, newRoom}
+use Rattle.accounts.specs.Accounts.{countWithin, lowered, newRoom}
 use Rattle.table.specs.TableChecks.{idGiven, idNew, roomLeft, accountThere, portKnown, notInLine, portOpen, notUsedUp, inLine, inFront, seedNew}
 use Rattle.table.specs.Steps as Steps
 use Rattle.table.specs.Steps.{After, refused, replyRefused, done, enrolChecked, joinChecked, leaveChecked, turnChecked, renewChecked, offered, read}
 use Rattle.reached.specs.Calls.{Call, checkedAnswer, repliedAnswer, writtenAnswer, answer}
 use Rattle.reached.specs.InTurn.{HasTurn}
-use Rattle.reached.specs.Each.{Each}
+use Rattle.refusal.specs.Each.{Each}
 use Rattle.grounds.specs.Listed.{isIn, refusalsOf, Within, ReadWithin, ChallengeWithin, WriteWithin}
 use Rattle.reached.specs.Made.{Made}
 use Rattle.refusal.specs.Laws.{must-good}

@@ -11,7 +11,7 @@ use Rattle.text.specs.Tests.{either}
 use Rattle.line.specs.declared.Place.{Place}
 use Rattle.line.specs.Line.{Waiting, ofPort, some, standsIn, first, start, turnJoined, joined, others, turnWithout, without, tickedFront, ticked}
 use Rattle.reached.specs.Made.{Once, TurnRight, Standing}
-use Rattle.reached.specs.Each.{Each, each-append}
+use Rattle.refusal.specs.Each.{Each, each-append}
 
 -- ---- those that leave
 

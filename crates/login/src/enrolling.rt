@@ -1,5 +1,6 @@
 // The calls that keep accounts: Enrol and Remove.
 ghost use mathlib.Core.Path.{_≡_};
+ghost use Rattle.refusal.specs.Checks.{inOrder};
 ghost use Rattle.table.specs.Table.{view};
 ghost use Rattle.table.specs.Steps as steps;
 ghost use Rattle.login.specs.Inside.{enrolFound, there};
@@ -14,7 +15,7 @@ use table::held::put;
 
 // Enrol's checks in their order: 50, then those of the values, 52, 53. The places are those of the id and of the first free room.
 fn check_enrol(id: u16, values: Checked, place: usize, room: usize) -> Checked
-    ensures { λ r. ⌜ r ≡ enrolFound id values place room ⌝ }
+    ensures { λ r. ⌜ r ≡ inOrder (enrolFound id values place room) ⌝ }
 {
     if id == 0 {
         return Checked::Refused(Refusal::IdZero);

@@ -2,9 +2,10 @@
 ghost use mathlib.Core.Path.{_≡_};
 ghost use lib.Dec.{eqb};
 ghost use lib.ListN.{getD};
+ghost use Rattle.refusal.specs.Checks.{inOrder};
 ghost use Rattle.table.specs.Table.{view, freshPort};
 ghost use Rattle.table.specs.Steps as steps;
-ghost use Rattle.login.specs.Inside.{joinOrder};
+ghost use Rattle.login.specs.Inside.{joinChecks};
 use port::Port;
 use refusal::Checked;
 use refusal::Refusal;
@@ -27,7 +28,7 @@ fn is_open(ports: [Port; 4], port: u8) -> bool
 
 // Join's checks in their order: 55, 54, 56, 57, 58.
 fn join_answer(known: bool, there: bool, out: bool, unshut: bool, unused: bool) -> Checked
-    ensures { λ r. ⌜ r ≡ joinOrder known there out unshut unused ⌝ }
+    ensures { λ r. ⌜ r ≡ inOrder (joinChecks known there out unshut unused) ⌝ }
 {
     if !known {
         return Checked::Refused(Refusal::PortUnknown);

@@ -12,7 +12,7 @@ use lib.ListN.{length, getD, set}
 use Rattle.refusal.specs.declared.Refusal.{Refusal}
 use Rattle.refusal.specs.declared.Checked.{Checked}
 use Rattle.refusal.specs.declared.Reading.{Reading}
-use Rattle.refusal.specs.Checks.{must, unless}
+use Rattle.refusal.specs.Checks.{must, unless, inOrder}
 use Rattle.refusal.specs.Laws.{must-good}
 use Rattle.text.specs.Kinds.{lowerOf}
 use Rattle.text.specs.Tests.{both, same}
@@ -26,11 +26,11 @@ use Rattle.port.specs.Port.{wrongAnswer}
 use Rattle.table.specs.declared.Replied.{Replied}
 use Rattle.accounts.specs.Rooms.{Room, free, placeOf, holds}
 use Rattle.table.specs.Table.{State, isThere, accountOf, portOf, turnId}
-use Rattle.accounts.specs.Accounts.{inOrder, countWithin, newRoom, lowered}
+use Rattle.accounts.specs.Accounts.{countWithin, newRoom, lowered}
 use Rattle.table.specs.TableChecks.{idGiven, portKnown, notInLine, portOpen, inLine, inFront}
 use Rattle.table.specs.Steps as steps
 use Rattle.table.specs.Steps.{enrolChecked, joinChecked, leaveChecked, turnChecked, renewChecked}
-use Rattle.table.specs.Passed.{enrol-passed, turn-passed, renew-passed, challenge-refused, challenge-done}
+use Rattle.table.specs.StepLaws.{enrol-passed, turn-passed, renew-passed, challenge-refused, challenge-done}
 use Rattle.reached.specs.Equal.{accountBy, SameAccounts, Equal, Alike, times, Housed}
 use Rattle.reached.specs.RoomsChanged.{there-parts}
 use Rattle.reached.specs.RoomsFound.{holds-times, placed-id, account-by, found-none, set-other, set-here, times-set, accounts-free, same-count}

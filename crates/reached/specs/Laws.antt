@@ -18,7 +18,7 @@ use Rattle.table.specs.Table.{State, fresh, isThere, turnId}
 use Rattle.table.specs.TableChecks.{roomLeft}
 use Rattle.table.specs.Steps as steps
 use Rattle.reached.specs.Calls.{Call, after, answer, run, checkedAnswer, repliedAnswer, writtenAnswer}
-use Rattle.table.specs.Passed.{remove-done}
+use Rattle.table.specs.StepLaws.{remove-done}
 use Rattle.reached.specs.Equal.{Equal, times, accountsIn, Housed}
 use Rattle.reached.specs.RoomsFound.{is, holds-times, placed-id, times-set, accounts-free}
 use Rattle.reached.specs.RoomsChanged.{there-parts}

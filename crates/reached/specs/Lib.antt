@@ -1,5 +1,5 @@
 -- Runs of calls, equal tables, and the laws of the tables that calls make: what is found in their rooms, what a call can do to them, what stays.
--- Each, Made, InTurn and Day have the words of the demands on tables.
+-- Made, InTurn and Day have the words of the demands on tables.
 pub mod Calls
 pub mod Equal
 pub mod RoomsFound
@@ -8,7 +8,6 @@ pub mod Outcome
 pub mod EqualLaws
 pub mod Laws
 pub mod Examples
-pub mod Each
 pub mod Made
 pub mod InTurn
 pub mod Day

@@ -11,7 +11,7 @@ use Rattle.line.specs.Line.{Waiting, ofPort, some}
 use Rattle.port.specs.declared.Port.{Port}
 use Rattle.accounts.specs.Rooms.{Room}
 use Rattle.table.specs.Table.{State, isThere, portOf}
-use Rattle.reached.specs.Each.{Each}
+use Rattle.refusal.specs.Each.{Each}
 
 -- ---- the line
 

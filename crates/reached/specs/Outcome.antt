@@ -30,7 +30,7 @@ use Rattle.reached.specs.Calls.{Call, after}
 use Rattle.reached.specs.InTurn.{tickOf, quiet}
 use Rattle.reached.specs.Made.{isKept, AccountGood}
 use Rattle.refusal.specs.Laws.{must-good}
-use Rattle.table.specs.Passed.{enrol-passed, join-passed, turn-passed, renew-passed}
+use Rattle.table.specs.StepLaws.{enrol-passed, join-passed, turn-passed, renew-passed}
 use Rattle.reached.specs.RoomsFound.{placed-id}
 use Rattle.reached.specs.RoomsChanged.{there-parts}
 

@@ -10,7 +10,7 @@ use borrow.Author.Tests.{eq-eqb, ne-eqb, eqb-true, eqb-false, lt-ltb, le-ltb, lt
 use lib.Dec.{eqb, ltb, leb·suc-suc}
 use lib.ListN.{length, getD, set}
 use Rattle.accounts.specs.Rooms.{Room, free, placeOf, holds}
-use Rattle.reached.specs.Each.{Each}
+use Rattle.refusal.specs.Each.{Each}
 use Rattle.reached.specs.Made.{Apart}
 use Rattle.reached.specs.Equal.{accountBy, SameAccounts, times, accountsIn}
 

@@ -1,5 +1,6 @@
 -- One check after the other: "Checks run in the order given."
 use mathlib.Core.Bool.{Bool, cond}
+use mathlib.Core.List.{List, [], _∷_}
 use Rattle.refusal.specs.declared.Refusal.{Refusal}
 use Rattle.refusal.specs.declared.Checked.{Checked}
 
@@ -11,3 +12,8 @@ must test why = cond test Checked.Good (Checked.Refused why)
 abbrev pub unless : {A : Type 0} → (Refusal → A) → Checked → A → A
 unless refused Checked.Good next = next
 unless refused (Checked.Refused why) next = refused why
+
+-- "Checks run in the order given": the first refusal.
+abbrev pub inOrder : List Checked → Checked
+inOrder [] = Checked.Good
+inOrder (check ∷ checks) = unless Checked.Refused check (inOrder checks)

@@ -2,5 +2,5 @@
 pub mod Table
 pub mod TableChecks
 pub mod Steps
-pub mod Passed
+pub mod StepLaws
 pub mod HeldLaws

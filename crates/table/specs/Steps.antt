@@ -7,7 +7,7 @@ use Rattle.refusal.specs.declared.Refusal.{Refusal}
 use Rattle.refusal.specs.declared.Checked.{Checked}
 use Rattle.refusal.specs.declared.Reading.{Reading}
 use Rattle.refusal.specs.declared.Written.{Written}
-use Rattle.refusal.specs.Checks.{unless}
+use Rattle.refusal.specs.Checks.{unless, inOrder}
 use Rattle.password.specs.PhraseAndSeed.{seedChecked}
 use Rattle.password.specs.Password.{Algorithm, hash, bytesOf}
 use Rattle.challenge.specs.Challenges.{challengeText, challengeWritten}
@@ -19,7 +19,7 @@ use Rattle.table.specs.declared.Settled.{Settled}
 use Rattle.table.specs.declared.Answered.{Answered}
 use Rattle.accounts.specs.Rooms.{Room, free, placeOf}
 use Rattle.table.specs.Table.{State, view, accountOf, portOf, turnId, withRoom, withPort, withLine}
-use Rattle.accounts.specs.Accounts.{inOrder, countWithin, newRoom, lowered}
+use Rattle.accounts.specs.Accounts.{countWithin, newRoom, lowered}
 use Rattle.table.specs.TableChecks.{idGiven, idNew, roomLeft, accountThere, portKnown, notInLine, portOpen, notUsedUp, inLine, inFront, seedNew}
 
 -- What a call answers, and the table after it.

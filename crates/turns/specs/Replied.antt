@@ -1,4 +1,4 @@
--- Reply and Renew on what a port's turn has of the table: Laws.antt ties them to the written steps, on the whole table.
+-- Reply and Renew on what a port's turn has of the table: RepliedLaws ties them to the written steps, on the whole table.
 use Prim.Native.Nat.{ℕ}
 use mathlib.Core.List.{List}
 use Rattle.refusal.specs.declared.Refusal.{Refusal}

@@ -1,7 +1,8 @@
--- Reply and Renew on a turn, put back, are the written steps.
+-- Laws of Reply and Renew on a turn: put back, they are the written steps.
 use Prim.Native.Nat.{ℕ}
-use mathlib.Core.Path.{_≡_, ap, _∙_}
+use mathlib.Core.Path.{_≡_, sym, ap, _∙_}
 use mathlib.Core.List.{List}
+use Rattle.refusal.specs.declared.Refusal.{Refusal}
 use Rattle.refusal.specs.declared.Checked.{Checked}
 use Rattle.refusal.specs.declared.Reading.{Reading}
 use Rattle.refusal.specs.Checks.{unless}
@@ -13,9 +14,15 @@ use Rattle.table.specs.Steps as steps
 use Rattle.table.specs.Steps.{After}
 use Rattle.turns.specs.TurnChecks.{frontChecked}
 use Rattle.turns.specs.TurnCheckLaws.{front-checked}
-use Rattle.turns.specs.TurnPart.{Said, seenBy, after, refused, offered}
+use Rattle.turns.specs.TurnPart.{Seen, Said, seenBy, after, refused, offered}
 use Rattle.turns.specs.TurnPartLaws.{after-refused, after-offered}
-use Rattle.turns.specs.Replied.{read, replyRead, replied, renewRead, renewChecked, renewed}
+use Rattle.turns.specs.Replied.{unread, read, replyRead, replied, renewRead, renewChecked, renewed}
+
+-- A text that could not be read.
+pub read-refused : (t : Seen) (r : Reading) (why : Refusal) (next : ℕ → Said) → r ≡ Reading.Refused why
+    → record { answer = unread r; turn = t } ≡ read t r next
+read-refused t r why next e =
+    ap (λ (x : Reading). record { answer = unread x; turn = t }) e ∙ sym (ap (λ (x : Reading). read t x next) e)
 
 module _ (port : ℕ) (s : State) where
   -- A check, and what is done behind it.

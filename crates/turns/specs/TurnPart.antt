@@ -1,4 +1,4 @@
--- What a call of a turn looks at and may change, and what becomes of it: Laws.antt ties it to the written steps, on the whole table.
+-- What a call of a turn looks at and may change, and what becomes of it: TurnPartLaws ties it to the written steps, on the whole table.
 use Prim.Native.Nat.{ℕ}
 use mathlib.Core.Bool.{cond}
 use lib.Dec.{eqb}
@@ -11,7 +11,7 @@ use Rattle.accounts.specs.Rooms.{Room, roomOf, placeOf}
 use Rattle.table.specs.declared.Replied.{Replied}
 use Rattle.table.specs.Table.{State, accountOf, portOf, turnId, withRoom, withPort, withLine}
 use Rattle.table.specs.Steps.{After}
-use Rattle.turns.specs.declared.offering.Turn.{Turn}
+use Rattle.turns.specs.declared.offering.TurnPart.{TurnPart}
 use Rattle.turns.specs.declared.offering.Outcome.{Outcome}
 
 -- The account in turn and its room, a port's own record, the line.
@@ -22,7 +22,7 @@ pub record Seen : Type 0 where
   pub line : Waiting
 
 -- What a turn's bytes mean.
-abbrev pub seen : Turn → Seen
+abbrev pub seen : TurnPart → Seen
 seen t = record { place = t .place; account = roomOf (t .account); own = t .own; line = waiting (t .line) }
 
 -- An answer, and the turn after it.

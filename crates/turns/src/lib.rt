@@ -8,7 +8,7 @@ ghost use Rattle.table.specs.Steps as steps;
 ghost use Rattle.turns.specs.TurnPart.{seen, outcome, after};
 ghost use Rattle.turns.specs.Inside.{seenAt};
 use crate::offering::Outcome;
-use crate::offering::Turn;
+use crate::offering::TurnPart;
 use crate::replying::renewed;
 use crate::replying::replied;
 use crate::turn_checks::check_turn;
@@ -53,14 +53,14 @@ fn own_of(ports: [Port; 4], port: u8) -> Port
 }
 
 // What a port's call looks at, the account of its turn in that room.
-fn turn_of(table: Table, port: u8, place: usize) -> Turn
+fn turn_of(table: Table, port: u8, place: usize) -> TurnPart
     ensures { λ r. ⌜ seen r ≡ seenAt port place (view table) ⌝ }
 {
     let account = account_at(table, place);
     let ports = table.ports;
     let own = own_of(ports, port);
     let line = table.line;
-    Turn {
+    TurnPart {
         place,
         account,
         own,

@@ -12,9 +12,9 @@ use port::after_wrong;
 use port::wrong_answer;
 use table::Replied;
 
-// What a call of a turn looks at, and what it may change: the account in turn and its room, the port's own record, the line.
+// The part of a table that a call in a turn looks at and may change: the account in turn and its room, the port's own record, the line.
 // It is handed over in place of the table, which is copied less often so.
-pub struct Turn {
+pub struct TurnPart {
     pub place: usize,
     pub account: Account,
     pub own: Port,
@@ -23,18 +23,18 @@ pub struct Turn {
 
 // An answer with the turn after it.
 pub struct Outcome {
-    pub turn: Turn,
+    pub turn: TurnPart,
     pub answer: Replied,
 }
 
-fn accepted(turn: Turn, port: u8, next: Account) -> Outcome
+fn accepted(turn: TurnPart, port: u8, next: Account) -> Outcome
     ensures { λ r. ⌜ outcome r ≡ spec.accepted port (roomOf next) (seen turn) ⌝ }
 {
     let own = after_right(turn.own);
     let waiting = turn.line;
     let line = line::departing::leave(waiting, port);
     Outcome {
-        turn: Turn {
+        turn: TurnPart {
             place: turn.place,
             account: next,
             own,
@@ -44,7 +44,7 @@ fn accepted(turn: Turn, port: u8, next: Account) -> Outcome
     }
 }
 
-fn rejected(turn: Turn, port: u8) -> Outcome
+fn rejected(turn: TurnPart, port: u8) -> Outcome
     ensures { λ r. ⌜ outcome r ≡ spec.rejected port (seen turn) ⌝ }
 {
     let account = turn.account;
@@ -52,7 +52,7 @@ fn rejected(turn: Turn, port: u8) -> Outcome
     let waiting = turn.line;
     let line = line::departing::leave(waiting, port);
     Outcome {
-        turn: Turn {
+        turn: TurnPart {
             place: turn.place,
             account,
             own,
@@ -63,7 +63,7 @@ fn rejected(turn: Turn, port: u8) -> Outcome
 }
 
 // Where the hash is the stored password, the account becomes `next`.
-pub fn offer(turn: Turn, port: u8, password: u64, next: Account) -> Outcome
+pub fn offer(turn: TurnPart, port: u8, password: u64, next: Account) -> Outcome
     ensures { λ r. ⌜ outcome r ≡ spec.offered port password (roomOf next) (seen turn) ⌝ }
 {
     let account = turn.account;

@@ -4,7 +4,7 @@ ghost use Rattle.accounts.specs.Rooms.{roomOf};
 ghost use Rattle.turns.specs.TurnPart.{seen, outcome};
 ghost use Rattle.turns.specs.Replied as spec;
 use crate::offering::Outcome;
-use crate::offering::Turn;
+use crate::offering::TurnPart;
 use crate::offering::offer;
 use crate::turn_checks::check_turn;
 use accounts::Account;
@@ -27,7 +27,7 @@ fn refusal_of(reading: Reading) -> Replied
 }
 
 // The reply of the port that has the turn.
-fn reply_read(turn: Turn, port: u8, text: &[u8]) -> Outcome
+fn reply_read(turn: TurnPart, port: u8, text: &[u8]) -> Outcome
     ensures { λ r. ⌜ outcome r ≡ spec.replyRead port (now (text .entry)) (seen turn) ⌝ }
 {
     let reading = read(text);
@@ -41,7 +41,7 @@ fn reply_read(turn: Turn, port: u8, text: &[u8]) -> Outcome
     offer(turn, port, password, lower(account, password))
 }
 
-pub fn replied(turn: Turn, port: u8, text: &[u8]) -> Outcome
+pub fn replied(turn: TurnPart, port: u8, text: &[u8]) -> Outcome
     ensures { λ r. ⌜ outcome r ≡ spec.replied port (now (text .entry)) (seen turn) ⌝ }
 {
     let line = turn.line;
@@ -56,7 +56,7 @@ pub fn replied(turn: Turn, port: u8, text: &[u8]) -> Outcome
 }
 
 // The renewal of the account whose port has the turn.
-fn renew_read(turn: Turn, port: u8, text: &[u8], next: Account) -> Outcome
+fn renew_read(turn: TurnPart, port: u8, text: &[u8], next: Account) -> Outcome
     ensures { λ r. ⌜ outcome r ≡ spec.renewRead port (now (text .entry)) (roomOf next) (seen turn) ⌝ }
 {
     let reading = read(text);
@@ -70,7 +70,7 @@ fn renew_read(turn: Turn, port: u8, text: &[u8], next: Account) -> Outcome
 }
 
 // What the turn's checks say, and behind them those of the new values.
-fn check_renew(turn: Turn, port: u8, values: Checked) -> Checked
+fn check_renew(turn: TurnPart, port: u8, values: Checked) -> Checked
     ensures { λ r. ⌜ r ≡ spec.renewChecked port values (seen turn) ⌝ }
 {
     let line = turn.line;
@@ -83,7 +83,7 @@ fn check_renew(turn: Turn, port: u8, values: Checked) -> Checked
 }
 
 pub fn renewed(
-    turn: Turn,
+    turn: TurnPart,
     port: u8,
     count: u16,
     seed: &[u8],

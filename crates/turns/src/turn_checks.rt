@@ -3,7 +3,8 @@ ghost use mathlib.Core.Path.{_≡_};
 ghost use Rattle.line.specs.Line as lines;
 ghost use Rattle.accounts.specs.Rooms.{roomOf};
 ghost use Rattle.table.specs.Table.{isFront};
-ghost use Rattle.turns.specs.TurnChecks.{placeChecked, accountChecked, frontChecked};
+ghost use Rattle.refusal.specs.Checks.{inOrder};
+ghost use Rattle.turns.specs.TurnChecks.{placeChecks, accountChecks, frontChecked};
 use accounts::Account;
 use line::Front;
 use line::Line;
@@ -22,7 +23,7 @@ fn has_turn(line: Line, port: u8) -> bool
 
 // 55, 59, 60.
 fn check_place(line: Line, port: u8) -> Checked
-    ensures { λ r. ⌜ r ≡ placeChecked port (lines.waiting line) ⌝ }
+    ensures { λ r. ⌜ r ≡ inOrder (placeChecks port (lines.waiting line)) ⌝ }
 {
     if 3 < port {
         return Checked::Refused(Refusal::PortUnknown);
@@ -38,7 +39,7 @@ fn check_place(line: Line, port: u8) -> Checked
 
 // 54, 58, of what was found where the account was looked up: a free room where it isn't there.
 fn check_account(account: Account) -> Checked
-    ensures { λ r. ⌜ r ≡ accountChecked (roomOf account) ⌝ }
+    ensures { λ r. ⌜ r ≡ inOrder (accountChecks (roomOf account)) ⌝ }
 {
     if account.id == 0 {
         return Checked::Refused(Refusal::AccountMissing);

@@ -8,7 +8,7 @@ use Rattle.challenge.specs.Challenges.{challengeText, challengeWritten}
 use Rattle.accounts.specs.Rooms.{Room, roomOf, free, placeOf}
 use Rattle.table.specs.Table.{view, accountOf, turnId}
 use Rattle.table.specs.Steps.{turnChecked}
-use Rattle.table.specs.Passed.{challenge-refused, challenge-done}
+use Rattle.table.specs.StepLaws.{challenge-refused, challenge-done}
 use Rattle.turns.specs.TurnChecks.{frontChecked}
 use Rattle.turns.specs.TurnCheckLaws.{front-checked}
 use Rattle.turns.proofs.challenge.Statement.{statement}

@@ -1,8 +1,8 @@
 -- `check_values` meets its promise: each return is the first check that fails.
 use Prim.Native.Nat.{_≤_}
 use mathlib.Core.Path.{_≡_, sym, ap, ap₂, _∙_}
-use mathlib.Core.Bool.{Bool, true, _&&_}
-use mathlib.Core.List.{map}
+use mathlib.Core.Bool.{Bool, true, not, _&&_}
+use mathlib.Core.List.{List, [], _∷_, map}
 use borrow.Author.Needs.{needs}
 use borrow.Author.Tests.{le-leb, lt-leb}
 use native.Mathlib.Omega.{arith}
@@ -11,11 +11,12 @@ use lib.ListN.{length}
 use lib.Seq.{length-take-le}
 use Rattle.text.specs.Tests.{same}
 use Rattle.refusal.specs.declared.Checked.{Checked}
+use Rattle.refusal.specs.Laws.{test-good, test-refused, first-fails, none-fails}
 use Rattle.text.specs.Kinds.{lowerOf}
 use Rattle.password.specs.PhraseAndSeed.{seedChecked}
 use Rattle.line.specs.Laws.{all-taken}
 use Rattle.accounts.specs.Rooms.{roomOf}
-use Rattle.accounts.proofs.Order.{new-51, new-seed, new-63, new-good}
+use Rattle.accounts.specs.Accounts.{countWithin, seedOther, valuesChecked}
 use Rattle.accounts.proofs.values.check_values.Statement.{statement}
 use Rattle.accounts.proofs.values.check_values.Tie as tie
 
@@ -44,32 +45,43 @@ compared c =
     (sym (all-taken (c .before .before .seed-len .result) (account .len) (account .seed) (c .before .before .seed-len .ensures .0)))
     ∙ sym (c .same-seed .ensures)
 
+abbrev checks : tie.Start → List Checked
+checks c = countWithin (c .args .count) ∷ seedChecked (c .args .seed .now) ∷ seedOther (c .args .seed .now) (roomOf (c .args .present)) ∷ []
+
 returns : tie.Need-returns
-returns c = sym (new-51 _ _ (roomOf (c .before .before .args .present))
-    (ap (λ (b : Bool). b && leb (c .before .before .args .count) 9999) (lt-leb 2 _ (c .if1 .taken))))
+unfolding valuesChecked
+returns c =
+    let start = c .before .before in
+    first-fails (checks start) 0 _ tt (test-refused (ap (λ (b : Bool). b && leb (start .args .count) 9999) (lt-leb 2 _ (c .if1 .taken))))
 
 returns-2 : tie.Need-returns-2
+unfolding valuesChecked
 returns-2 c =
-    sym (new-51 _ _ (roomOf (c .before .before .before .args .present))
-    (ap₂ (λ (a b : Bool). a && b) (le-leb 2 _ (c .before .if1 .left)) (lt-leb _ 9999 (c .if2 .taken))))
+    first-fails (checks (c .before .before .before)) 0 _ tt
+    (test-refused (ap₂ (λ (a b : Bool). a && b) (le-leb 2 _ (c .before .if1 .left)) (lt-leb _ 9999 (c .if2 .taken))))
 
 returns-3 : tie.Need-returns-3
+unfolding valuesChecked
 returns-3 c =
     let counted = c .before .before .before .before in
-    sym (new-seed _ _ (roomOf (counted .before .before .before .args .present)) _ (count-good counted)
-    (sym (c .before .before .before .check-seed .ensures) ∙ c .before .why .given .1))
+    first-fails (checks (counted .before .before .before)) 1 _ (test-good _ (count-good counted), tt)
+    (sym (c .before .before .before .check-seed .ensures) ∙ c .before .why .given .1)
 
 returns-4 : tie.Need-returns-4
+unfolding valuesChecked
 returns-4 c =
     let seeded = c .before .before .before .before .before in
     let counted = seeded .before .before .before in
-    sym (new-63 _ _ (roomOf (counted .before .before .before .args .present)) (count-good counted) (seed-good seeded) (compared (c .before) ∙ c .if3 .taken))
+    first-fails (checks (counted .before .before .before)) 2 _ (test-good _ (count-good counted), (seed-good seeded, tt))
+    (test-refused (ap not (compared (c .before) ∙ c .if3 .taken)))
 
 returns-5 : tie.Need-returns-5
+unfolding valuesChecked
 returns-5 c =
     let seeded = c .before .before .before .before .before in
     let counted = seeded .before .before .before in
-    sym (new-good _ _ (roomOf (counted .before .before .before .args .present)) (count-good counted) (seed-good seeded) (compared (c .before) ∙ c .if3 .left))
+    none-fails (checks (counted .before .before .before))
+    (test-good _ (count-good counted), (seed-good seeded, (test-good _ (ap not (compared (c .before) ∙ c .if3 .left)), tt)))
 
 pub check-values-spec : {M : Type 1} → statement M
 check-values-spec =

@@ -1,28 +1,44 @@
 -- `enrol` meets its promise: refused as checked, or the account stands in the first free room.
+use Prim.Native.Nat.{ℕ}
 use mathlib.Core.Path.{_≡_, sym, ap, _∙_}
+use mathlib.Core.Bool.{not, _&&_}
+use mathlib.Core.List.{List, [], _∷_}
 use borrow.Author.Needs.{needs}
+use lib.Dec.{eqb, ltb}
 use Rattle.refusal.specs.declared.Checked.{Checked}
-use Rattle.accounts.specs.Rooms.{free}
-use Rattle.accounts.specs.Accounts.{Proposal, newRoom, valuesChecked}
-use Rattle.table.specs.Table.{view, withRoom}
+use Rattle.refusal.specs.Checks.{unless, inOrder}
+use Rattle.refusal.specs.Laws.{first-good, each-good, in-parts}
+use Rattle.password.specs.PhraseAndSeed.{seedChecked}
+use Rattle.accounts.specs.Rooms.{free, holds}
+use Rattle.accounts.specs.Accounts.{Proposal, newRoom, countWithin, valuesChecked}
+use Rattle.accounts.specs.Laws.{values-enrolled}
+use Rattle.table.specs.Table.{State, view, withRoom}
+use Rattle.table.specs.TableChecks.{idGiven, idNew, roomLeft}
 use Rattle.table.specs.Steps.{enrolChecked}
-use Rattle.table.specs.Passed.{enrol-refused, enrol-done}
-use Rattle.login.specs.Inside.{enrolFound}
-use Rattle.login.proofs.enrolling.Order.{enrol-found, enrol-room}
+use Rattle.table.specs.StepLaws.{enrol-refused, enrol-done}
+use Rattle.login.specs.Inside.{enrolChecks, enrolFound}
 use Rattle.login.proofs.enrolling.enrol.Statement.{statement}
 use Rattle.login.proofs.enrolling.enrol.Tie as tie
+
+-- What is found with the values beside a free room is what is written.
+enrol-found : (id count : ℕ) (seed : List ℕ) (s : State) (place room : ℕ) → ltb place 32 ≡ holds id (s .rooms) → ltb room 32 ≡ holds 0 (s .rooms)
+    → inOrder (enrolFound id (valuesChecked count seed free) place room) ≡ enrolChecked id count seed s
+unfolding enrolChecked
+enrol-found id count seed s place room held left =
+    (λ i. inOrder (enrolChecks (not (eqb id 0)) (values-enrolled count seed i) (not (not (eqb id 0) && held i)) (left i)))
+    ∙ ap (unless Checked.Refused (idGiven id)) (in-parts (countWithin count ∷ seedChecked seed ∷ []) (idNew id s ∷ roomLeft s ∷ []))
 
 abbrev from : tie.After-check-enrol → tie.Start
 from c = c .before .before .before .before .before
 
 -- What was checked, of the values that were proposed.
 found : (c : tie.After-check-enrol) → c .check-enrol .result
-    ≡ enrolFound (from c .args .id) (valuesChecked (from c .args .count) (from c .args .seed .now) free)
-    (c .before .before .before .place-of .result) (c .before .before .place-of2 .result)
+    ≡ inOrder (enrolFound (from c .args .id) (valuesChecked (from c .args .count) (from c .args .seed .now) free)
+    (c .before .before .before .place-of .result) (c .before .before .place-of2 .result))
 found c =
     c .check-enrol .ensures
-    ∙ ap (λ (p : Proposal). enrolFound (from c .args .id) (p .checked) (c .before .before .before .place-of .result) (c .before .before .place-of2 .result))
-    (c .before .propose .ensures)
+    ∙ ap (λ (p : Proposal). inOrder (enrolFound (from c .args .id) (p .checked) (c .before .before .before .place-of .result)
+    (c .before .before .place-of2 .result))) (c .before .propose .ensures)
 
 checked : (c : tie.After-check-enrol) → c .check-enrol .result
     ≡ enrolChecked (from c .args .id) (from c .args .count) (from c .args .seed .now) (view (from c .args .table))
@@ -48,8 +64,10 @@ returns-2 c =
     let s = view (a .table) in
     let new = newRoom (a .id) (a .count) (a .seed .now) (a .password .now) in
     let good = told .enum-told2 .given .1 in
-    let room : _ ≡ new = ap (λ (p : Proposal). p .room) (asked .before .propose .ensures) ∙ enrol-room (a .id) (valuesChecked (a .count) (a .seed .now) free)
-    (asked .before .before .before .place-of .result) (asked .before .before .place-of2 .result) new (sym (found asked) ∙ good) in
+    let values = valuesChecked (a .count) (a .seed .now) free in
+    let each = each-good (enrolFound (a .id) values (asked .before .before .before .place-of .result) (asked .before .before .place-of2 .result))
+    (sym (found asked) ∙ good) in
+    let room : _ ≡ new = ap (λ (p : Proposal). p .room) (asked .before .propose .ensures) ∙ sym (first-good (λ _. free) values new (each .1 .0)) in
     let after = c .put .ensures ∙ (λ i. withRoom (asked .before .before .place-of2 .ensures .0 i) (room i) s) in
     (λ i. record { answer = good i; state = after i })
     ∙ sym (enrol-done (a .id) (a .count) (a .seed .now) s (a .password .now) (sym (checked asked) ∙ good))

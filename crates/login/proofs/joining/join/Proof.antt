@@ -4,7 +4,7 @@ use borrow.Author.Needs.{needs}
 use Rattle.refusal.specs.declared.Checked.{Checked}
 use Rattle.line.specs.Line.{Waiting}
 use Rattle.table.specs.Table.{view, withLine}
-use Rattle.table.specs.Passed.{join-refused, join-done}
+use Rattle.table.specs.StepLaws.{join-refused, join-done}
 use Rattle.login.proofs.joining.join.Statement.{statement}
 use Rattle.login.proofs.joining.join.Tie as tie
 

@@ -4,7 +4,7 @@ use borrow.Author.Needs.{needs}
 use Rattle.refusal.specs.declared.Checked.{Checked}
 use Rattle.line.specs.Line.{Waiting}
 use Rattle.table.specs.Table.{view, withLine}
-use Rattle.table.specs.Passed.{leave-refused, leave-done}
+use Rattle.table.specs.StepLaws.{leave-refused, leave-done}
 use Rattle.login.proofs.leaving.leave.Statement.{statement}
 use Rattle.login.proofs.leaving.leave.Tie as tie
 

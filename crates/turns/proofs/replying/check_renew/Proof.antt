@@ -2,7 +2,7 @@
 use mathlib.Core.Path.{sym, _∙_}
 use borrow.Author.Needs.{needs}
 use Rattle.refusal.specs.declared.Checked.{Checked}
-use Rattle.turns.proofs.replying.Order.{first-refused, first-good}
+use Rattle.refusal.specs.Laws.{first-refused, first-good}
 use Rattle.turns.proofs.replying.check_renew.Statement.{statement}
 use Rattle.turns.proofs.replying.check_renew.Tie as tie
 

@@ -8,7 +8,7 @@ use Rattle.accounts.specs.Rooms.{Room, roomOf}
 use Rattle.table.specs.declared.Replied.{Replied}
 use Rattle.turns.specs.TurnPart.{Seen, Said, seen, offered}
 use Rattle.turns.specs.Replied.{read, renewRead}
-use Rattle.turns.proofs.replying.Order.{read-refused}
+use Rattle.turns.specs.RepliedLaws.{read-refused}
 use Rattle.turns.proofs.replying.renew_read.Statement.{statement}
 use Rattle.turns.proofs.replying.renew_read.Tie as tie
 

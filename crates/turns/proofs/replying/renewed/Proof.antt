@@ -1,12 +1,12 @@
 -- `renewed` meets its promise: refused as the turn and the new values are, or what the text says is offered.
 use mathlib.Core.Path.{_≡_, sym, ap, _∙_}
 use borrow.Author.Needs.{needs}
-use Rattle.accounts.specs.Rooms.{Room, roomOf}
+use Rattle.refusal.specs.Laws.{first-refused, first-good, both-good}
+use Rattle.accounts.specs.Rooms.{Room, roomOf, free}
 use Rattle.accounts.specs.Accounts.{Proposal, newRoom, valuesChecked}
 use Rattle.turns.specs.TurnChecks.{frontChecked}
 use Rattle.turns.specs.TurnPart.{seen, refused}
 use Rattle.turns.specs.Replied as spec
-use Rattle.turns.proofs.replying.Order.{first-refused, first-good, proposed-room}
 use Rattle.turns.proofs.replying.renewed.Statement.{statement}
 use Rattle.turns.proofs.replying.renewed.Tie as tie
 
@@ -39,7 +39,8 @@ returns-2 c =
     let next = newRoom (a .turn .account .id) (a .count) (a .seed .now) (a .password .now) in
     let good = sym (checked found) ∙ told .enum-told .given .1 in
     let room = ap (λ (p : Proposal). p .room) (found .before .propose .ensures)
-    ∙ proposed-room (frontChecked (a .port) (t .line) (t .account)) (valuesChecked (a .count) (a .seed .now) (t .account)) next good in
+    ∙ sym (first-good (λ _. free) (valuesChecked (a .count) (a .seed .now) (t .account)) next
+    (both-good (frontChecked (a .port) (t .line) (t .account)) _ good .1)) in
     c .renew-read .ensures
     ∙ ap (λ (r : Room). spec.renewRead (a .port) (a .text .now) r t) room
     ∙ first-good (refused t) _ (spec.renewRead (a .port) (a .text .now) next t) good

@@ -1,9 +1,9 @@
 -- `replied` meets its promise: refused as the turn is, or what the text says is offered.
 use mathlib.Core.Path.{sym, _∙_}
 use borrow.Author.Needs.{needs}
+use Rattle.refusal.specs.Laws.{first-refused, first-good}
 use Rattle.turns.specs.TurnPart.{seen, refused}
 use Rattle.turns.specs.Replied as spec
-use Rattle.turns.proofs.replying.Order.{first-refused, first-good}
 use Rattle.turns.proofs.replying.replied.Statement.{statement}
 use Rattle.turns.proofs.replying.replied.Tie as tie
 

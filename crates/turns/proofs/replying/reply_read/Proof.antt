@@ -9,7 +9,7 @@ use Rattle.accounts.specs.Accounts.{lowered}
 use Rattle.table.specs.declared.Replied.{Replied}
 use Rattle.turns.specs.TurnPart.{Seen, Said, seen, offered}
 use Rattle.turns.specs.Replied.{read, replyRead}
-use Rattle.turns.proofs.replying.Order.{read-refused}
+use Rattle.turns.specs.RepliedLaws.{read-refused}
 use Rattle.turns.proofs.replying.reply_read.Statement.{statement}
 use Rattle.turns.proofs.replying.reply_read.Tie as tie
 

@@ -1,8 +1,11 @@
 -- `check_account` meets its promise: each return is the first check that fails.
+use mathlib.Core.Path.{ap}
+use mathlib.Core.Bool.{not}
 use borrow.Author.Tests.{eq-eqb, ne-eqb, le-ltb, lt-ltb}
 use native.Mathlib.Omega.{arith}
+use Rattle.refusal.specs.Laws.{test-good, test-refused, first-fails, none-fails}
 use Rattle.accounts.specs.Rooms.{roomOf}
-use Rattle.turns.proofs.turn_checks.Order.{account-54, account-58, account-good}
+use Rattle.turns.specs.TurnChecks.{accountChecks}
 use Rattle.turns.proofs.turn_checks.check_account.Statement.{statement}
 use Rattle.turns.proofs.turn_checks.check_account.Tie as tie
 
@@ -10,8 +13,12 @@ pub check-account-spec : {M : Type 1} → statement M
 check-account-spec =
     tie.close
     (tie.spec
-    (λ c. account-54 (roomOf (c .before .before .args .account)) (eq-eqb _ _ (c .if1 .taken)))
-    (λ c. let a = c .before .before .before .before .args .account in
-    account-58 (roomOf a) (ne-eqb _ _ (c .before .before .if1 .left)) (le-ltb 1 (a .count) (omega (arith, c .if2 .taken))))
-    (λ c. let a = c .before .before .before .before .args .account in
-    account-good (roomOf a) (ne-eqb _ _ (c .before .before .if1 .left)) (lt-ltb 1 (a .count) (omega (arith, c .if2 .left)))))
+    (λ c. first-fails (accountChecks (roomOf (c .before .before .args .account))) 0 _ tt (test-refused (ap not (eq-eqb _ _ (c .if1 .taken)))))
+    (λ c.
+    let a = c .before .before .before .before .args .account in
+    first-fails (accountChecks (roomOf a)) 1 _ (test-good _ (ap not (ne-eqb _ _ (c .before .before .if1 .left))), tt)
+    (test-refused (le-ltb 1 (a .count) (omega (arith, c .if2 .taken)))))
+    (λ c.
+    let a = c .before .before .before .before .args .account in
+    none-fails (accountChecks (roomOf a))
+    (test-good _ (ap not (ne-eqb _ _ (c .before .before .if1 .left))), (test-good _ (lt-ltb 1 (a .count) (omega (arith, c .if2 .left))), tt))))

@@ -1,4 +1,4 @@
--- What holds of each element of a list, and how it is kept.
+-- What holds of each check of a list, or of each element of any list, and how it is kept.
 use Prim.Native.Nat.{ℕ, zero, suc}
 use mathlib.Core.List.{List, [], _∷_, _++_, map}
 use lib.ListN.{getD, set, replicate}

@@ -1,43 +1,22 @@
--- What the checks of each call say where they found nothing wrong, and the two ways of most calls: a refusal, or what they do.
+-- Laws of the written steps: what a call's checks say where they found nothing wrong, and each call's two ways, a refusal or what it does.
 use Prim.Native.Nat.{ℕ, _-_}
-use mathlib.Core.Path.{_≡_, refl}
+use mathlib.Core.Path.{_≡_}
 use mathlib.Core.Bool.{true, not, _&&_}
 use mathlib.Core.List.{List, [], _∷_}
-use native.Mathlib.Omega.{arith}
 use lib.Dec.{eqb, leb, ltb}
 use Rattle.refusal.specs.declared.Refusal.{Refusal}
 use Rattle.refusal.specs.declared.Checked.{Checked}
 use Rattle.refusal.specs.declared.Written.{Written}
-use Rattle.refusal.specs.Checks.{unless}
-use Rattle.refusal.specs.Laws.{must-good}
+use Rattle.refusal.specs.Laws.{must-good, each-good}
 use Rattle.password.specs.PhraseAndSeed.{seedChecked}
 use Rattle.challenge.specs.Challenges.{challengeWritten}
 use Rattle.line.specs.Line.{standsIn, joined, left, removed}
 use Rattle.accounts.specs.Rooms.{free, holds, placeOf}
-use Rattle.accounts.specs.Accounts.{inOrder, newRoom}
+use Rattle.accounts.specs.Accounts.{newRoom, countWithin}
 use Rattle.table.specs.Table.{State, isThere, accountOf, portOf, hasTurn, turnId, withRoom, withLine}
-use Rattle.table.specs.TableChecks.{seedNew}
+use Rattle.table.specs.TableChecks.{idGiven, idNew, roomLeft, accountThere, portKnown, notInLine, portOpen, notUsedUp, inLine, inFront, seedNew}
 use Rattle.table.specs.Steps as steps
 use Rattle.table.specs.Steps.{enrolChecked, joinChecked, leaveChecked, turnChecked, renewChecked}
-
--- A check and those behind it.
-pub both-passed : (check rest : Checked) → unless Checked.Refused check rest ≡ Checked.Good → (check ≡ Checked.Good) × (rest ≡ Checked.Good)
-both-passed Checked.Good rest e = (refl, e)
-both-passed (Checked.Refused why) rest e = let z : _≡_ {A = ℕ} 0 1 = cc in absurd (omega arith)
-
--- The last check.
-last-passed : (check : Checked) → unless Checked.Refused check Checked.Good ≡ Checked.Good → check ≡ Checked.Good
-last-passed check e = both-passed check Checked.Good e .0
-
--- Five checks, one after the other.
-five-passed : (a b c d e : Checked) → inOrder (a ∷ b ∷ c ∷ d ∷ e ∷ []) ≡ Checked.Good
-    → (a ≡ Checked.Good) × (b ≡ Checked.Good) × (c ≡ Checked.Good) × (d ≡ Checked.Good) × (e ≡ Checked.Good)
-five-passed a b c d e h =
-    let p = both-passed a _ h in
-    let q = both-passed b _ (p .1) in
-    let r = both-passed c _ (q .1) in
-    let t = both-passed d _ (r .1) in
-    (p .0, q .0, r .0, t .0, last-passed e (t .1))
 
 -- ---- Enrol
 
@@ -52,13 +31,13 @@ module _ (id count : ℕ) (seed : List ℕ) (s : State) where
   pub enrol-passed : enrolChecked id count seed s ≡ Checked.Good → EnrolPassed id count seed s
   unfolding enrolChecked
   enrol-passed e =
-      let passed = five-passed _ _ _ _ _ e in
+      let found = each-good (idGiven id ∷ countWithin count ∷ seedChecked seed ∷ idNew id s ∷ roomLeft s ∷ []) e in
       record {
-        given = must-good _ _ (passed .0);
-        within = must-good _ _ (passed .1);
-        good = passed .2;
-        new = must-good _ _ (passed .3);
-        room = must-good _ _ (passed .4);
+        given = must-good _ _ (found .0);
+        within = must-good _ _ (found .1 .0);
+        good = found .1 .1 .0;
+        new = must-good _ _ (found .1 .1 .1 .0);
+        room = must-good _ _ (found .1 .1 .1 .1 .0);
       }
 
   pub enrol-refused : (password : List ℕ) (why : Refusal) → enrolChecked id count seed s ≡ Checked.Refused why
@@ -92,13 +71,13 @@ module _ (port id : ℕ) (s : State) where
   pub join-passed : joinChecked port id s ≡ Checked.Good → JoinPassed port id s
   unfolding joinChecked
   join-passed e =
-      let passed = five-passed _ _ _ _ _ e in
+      let found = each-good (portKnown port ∷ accountThere id s ∷ notInLine port s ∷ portOpen port s ∷ notUsedUp id s ∷ []) e in
       record {
-        known = must-good _ _ (passed .0);
-        there = must-good _ _ (passed .1);
-        out = must-good _ _ (passed .2);
-        unshut = must-good _ _ (passed .3);
-        unused = must-good _ _ (passed .4);
+        known = must-good _ _ (found .0);
+        there = must-good _ _ (found .1 .0);
+        out = must-good _ _ (found .1 .1 .0);
+        unshut = must-good _ _ (found .1 .1 .1 .0);
+        unused = must-good _ _ (found .1 .1 .1 .1 .0);
       }
 
   pub join-refused : (why : Refusal) → joinChecked port id s ≡ Checked.Refused why → steps.join port id s ≡ steps.refused s why
@@ -139,13 +118,13 @@ module _ (port : ℕ) (s : State) where
   pub turn-passed : turnChecked port s ≡ Checked.Good → TurnPassed port s
   unfolding turnChecked
   turn-passed e =
-      let passed = five-passed _ _ _ _ _ e in
+      let found = each-good (portKnown port ∷ inLine port s ∷ inFront port s ∷ accountThere (turnId s) s ∷ notUsedUp (turnId s) s ∷ []) e in
       record {
-        known = must-good _ _ (passed .0);
-        inside = must-good _ _ (passed .1);
-        front = must-good _ _ (passed .2);
-        there = must-good _ _ (passed .3);
-        unused = must-good _ _ (passed .4);
+        known = must-good _ _ (found .0);
+        inside = must-good _ _ (found .1 .0);
+        front = must-good _ _ (found .1 .1 .0);
+        there = must-good _ _ (found .1 .1 .1 .0);
+        unused = must-good _ _ (found .1 .1 .1 .1 .0);
       }
 
   pub challenge-refused : (room : ℕ) (why : Refusal) → turnChecked port s ≡ Checked.Refused why → steps.challenge port room s ≡ Written.Refused why
@@ -161,7 +140,5 @@ module _ (port count : ℕ) (seed : List ℕ) (s : State) where
   pub renew-passed : renewChecked port count seed s ≡ Checked.Good → RenewPassed port count seed s
   unfolding renewChecked
   renew-passed e =
-      let a = both-passed _ _ e in
-      let b = both-passed _ _ (a .1) in
-      let c = both-passed _ _ (b .1) in
-      record { turn = a .0; within = must-good _ _ (b .0); good = c .0; new = last-passed _ (c .1) }
+      let found = each-good (turnChecked port s ∷ countWithin count ∷ seedChecked seed ∷ seedNew seed (turnId s) s ∷ []) e in
+      record { turn = found .0; within = must-good _ _ (found .1 .0); good = found .1 .1 .0; new = found .1 .1 .1 .0 }

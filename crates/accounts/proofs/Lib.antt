@@ -1,2 +1,0 @@
--- What the proofs of `accounts`' functions share.
-pub mod Order

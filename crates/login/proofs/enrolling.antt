@@ -1,2 +1,0 @@
--- What the proofs of `enrolling`'s functions share.
-pub mod Order

@@ -1,2 +1,0 @@
--- What the proofs of `joining`'s functions share.
-pub mod Order

@@ -1,2 +1,0 @@
--- What the proofs of `replied`'s functions share.
-pub mod Order

@@ -1,2 +1,0 @@
--- What the proofs of `front`'s functions share.
-pub mod Order
