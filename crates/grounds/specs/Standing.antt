@@ -1,4 +1,4 @@
--- How a line may stand in a table that calls make, and that joining, leaving and ticks keep it so.
+-- Joining, leaving and ticks keep a line standing as it may in tables that calls make.
 use Prim.Native.Nat.{ℕ, _-_, _≤_}
 use native.Mathlib.Omega.{arith}
 use mathlib.Core.Path.{_≡_, refl, sym, _∙_}

@@ -22,15 +22,10 @@ use Rattle.grounds.specs.Moved.{moved, standing-moved}
 use Rattle.grounds.specs.Wait.{waitOf}
 use Rattle.grounds.specs.WaitFalls.{isPlace, leads, Waits, waits-moved, waits-joined}
 
--- ---- the line stands right after any calls
+-- ---- the line stands right after any call
 
 pub standing-after : (c : Call) (s : State) → Standing (s .line) → Standing (after c s .line)
 standing-after c s h = standing-moved c (s .line) (moved c s (outcome c s)) h
-
-pub standing-run : (calls : List Call) (s : State) → Standing (s .line) → Standing (run calls s .line)
-unfolding run
-standing-run [] s h = h
-standing-run (c ∷ cs) s h = standing-run cs (after c s) (standing-after c s h)
 
 pub standing-fresh : Standing (fresh .line)
 standing-fresh = record { known = tt; once = tt; turn = refl }

@@ -1,1 +1,1 @@
-// What the pages of `demands` rest on: how calls move tables, lines and accounts, and what they refuse. No code.
+// No code: what the pages of `demands` rest on is in specs/: how calls move the line, what they keep, and what they refuse.
