@@ -5,7 +5,7 @@ ghost use lib.ListN.{length};
 ghost use Rattle.digests.specs.Padding.{blocks, paddedByte, word, paddedWord, blockAt, little};
 
 // The sum and the rotation of words.
-pub mod words;
+pub mod arithmetic;
 
 // How many blocks the padded message has.
 pub fn count(m: &[u8]) -> usize

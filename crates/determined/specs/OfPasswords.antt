@@ -3,8 +3,8 @@ use mathlib.Core.Path.{sym, _∙_}
 use denote.Ref.{now}
 use Rattle.block.proofs.count.Reads as count
 use Rattle.block.proofs.block.Reads as block
-use Rattle.block.proofs.words.add.Reads as add
-use Rattle.block.proofs.words.rotated.Reads as rotated
+use Rattle.block.proofs.arithmetic.add.Reads as add
+use Rattle.block.proofs.arithmetic.rotated.Reads as rotated
 use Rattle.md5.proofs.compress.compress_eight.Reads as compress-eight
 use Rattle.md5.proofs.compress.registers.Reads as registers
 use Rattle.md5.proofs.digest.digest.Reads as digest

@@ -8,7 +8,7 @@ use Rattle.hex.proofs.read_hex.Reads as read-hex
 use Rattle.hex.proofs.write_hex.Reads as write-hex
 use Rattle.sixwords.proofs.spelling.words_length.Reads as words-length
 use Rattle.sixwords.proofs.spelling.write_words.Reads as write-words
-use Rattle.reply_reader.proofs.read.Reads as read
+use Rattle.reply.proofs.read.Reads as read
 use Rattle.determined.specs.Determined.{Answers, AnswersAndLent, left}
 
 pub word-at-determined : Answers word-at.Learnt

@@ -3,7 +3,7 @@ ghost use mathlib.Core.Path.{_≡_};
 ghost use Rattle.digests.specs.Rounds as spec;
 ghost use Rattle.md5.specs.Sums as code;
 use crate::rounds::operations::sixteen_of;
-use block::words::add;
+use block::arithmetic::add;
 use digests::State;
 
 // The four functions on words.

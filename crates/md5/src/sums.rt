@@ -3,7 +3,7 @@ ghost use mathlib.Core.Path.{_≡_};
 ghost use mathlib.Core.Bool.{true};
 ghost use Rattle.md5.specs.Sums as code;
 ghost use Rattle.md5.specs.Inside as inside;
-use block::words::add;
+use block::arithmetic::add;
 
 // Which message word each operation of a round takes: the k of the RFC's [abcd k s i].
 pub const ORDER_1: [usize; 16] = [0, 1, 2, 3, 4, 5, 6, 7, 8, 9, 10, 11, 12, 13, 14, 15];

@@ -46,7 +46,7 @@ pub extern "C" fn lift_password(phrase: &[u8], seed: &[u8], count: u32) -> LiftR
 pub extern "C" fn lift_read_reply(text: &[u8]) -> LiftReading
     ensures { λ r. ⌜ r ≡ readingRow (readingOf (now (text .entry))) ⌝ }
 {
-    reading_row(reply_reader::read(text))
+    reading_row(reply::read(text))
 }
 
 #[no_mangle]

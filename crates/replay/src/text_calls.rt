@@ -100,7 +100,7 @@ pub fn answer(call: usize, line: &[u8], given: Given)
     match call {
         0 => md5(text(line, given, 0)),
         1 => generate(line, given),
-        4 => reading(reply_reader::read(text(line, given, 0))),
+        4 => reading(reply::read(text(line, given, 0))),
         5 => chal(text(line, given, 0)),
         6 => writer(call, line, given, number(given, 2)),
         7 => writer(call, line, given, number(given, 3)),

@@ -2,3 +2,4 @@
 pub mod Reading
 pub mod Examples
 pub mod Laws
+pub mod Inside

@@ -1,1 +1,28 @@
-// What a reply says, as document 01 defines it under 'Six words and hex'. No code: `reply_reader` reads.
+// What a reply says, six words or sixteen hex digits, and its reader. Document 01, 'Six words and hex'.
+use crate::known_words::read_words;
+use crate::typed_words::six_words;
+use hex::read_hex;
+use refusal::Reading;
+use refusal::Refusal;
+ghost use mathlib.Core.Path.{_≡_};
+ghost use Rattle.reply.specs.Reading.{readingOf};
+
+// The tokens of a reply as packed words of the dictionary.
+mod typed_words;
+// Six packed words looked up.
+mod known_words;
+
+// The password that a reply says, in six words or in hex.
+pub fn read(text: &[u8]) -> Reading
+    ensures { λ r. ⌜ r ≡ readingOf (now (text .entry)) ⌝ }
+{
+    if 128 < text.len() {
+        return Reading::Refused(Refusal::ReplyLong);
+    }
+    let six = six_words(text);
+    if six.are {
+        let packed = six.words;
+        return read_words(packed);
+    }
+    read_hex(text)
+}

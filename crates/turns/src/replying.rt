@@ -13,7 +13,7 @@ use accounts::values::propose;
 use refusal::Checked;
 use refusal::Reading;
 use refusal::Refusal;
-use reply_reader::read;
+use reply::read;
 use table::Replied;
 
 // The answer to a text that could not be read.

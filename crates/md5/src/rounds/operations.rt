@@ -6,8 +6,8 @@ use crate::rounds::functions::f;
 use crate::rounds::functions::g;
 use crate::rounds::functions::h;
 use crate::rounds::functions::i;
-use block::words::add;
-use block::words::rotated;
+use block::arithmetic::add;
+use block::arithmetic::rotated;
 use digests::State;
 
 // One for each operation of four: their sums, or their shifts.

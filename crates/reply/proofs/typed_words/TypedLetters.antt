@@ -14,9 +14,9 @@ use borrow.Author.Tests.{le-leb, lt-leb, leb-true}
 use Rattle.text.specs.Kinds.{isUpper, isLower, isLetter, lowerOf, upperOf}
 use Rattle.text.specs.Tests.{every, second-fails, cases, both}
 use Rattle.dictionary.specs.Dictionary.{numberFrom, packed}
-use Rattle.reply_reader.specs.declared.typed_words.Word.{Word}
+use Rattle.reply.specs.declared.typed_words.Word.{Word}
 use Rattle.reply.specs.Reading.{isWord, upperText}
-use Rattle.reply_reader.specs.Inside.{packedToken, wordOf}
+use Rattle.reply.specs.Inside.{packedToken, wordOf}
 
 -- zeros up to three letters
 pub one-filled : (w n : ℕ) → n ≡ 1 → w < 256 ^ n → (w < 256) × (w * 65536 ≡ w * 256 ^ (3 - n))

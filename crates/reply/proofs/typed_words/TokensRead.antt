@@ -14,10 +14,10 @@ use Rattle.text.specs.Kinds.{isWhite, isSolid, isLetter}
 use Rattle.text.specs.Tests.{every, every-append, cases, both, second-fails}
 use Rattle.text.specs.Scan.{runOf, tokens, piece}
 use Rattle.text.specs.ScanLaws.{run-within, tokens-white, tokens-run, tokens-none, tokens-some, solid-after}
-use Rattle.reply_reader.specs.declared.typed_words.Word.{Word}
-use Rattle.reply_reader.specs.declared.typed_words.Six.{Six}
+use Rattle.reply.specs.declared.typed_words.Word.{Word}
+use Rattle.reply.specs.declared.typed_words.Six.{Six}
 use Rattle.reply.specs.Reading.{isWord, sixWords}
-use Rattle.reply_reader.specs.Inside.{firstToken, pastToken, packedToken, wordOf, sixOf}
+use Rattle.reply.specs.Inside.{firstToken, pastToken, packedToken, wordOf, sixOf}
 
 -- the run of solid bytes past the white space is the first token
 run-token : (s : List ℕ) → runOf isSolid (drop (runOf isWhite s) s) ≡ length (firstToken s)

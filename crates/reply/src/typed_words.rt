@@ -6,7 +6,7 @@ use text::scan::run;
 ghost use mathlib.Core.Path.{_≡_};
 ghost use Prim.Native.Nat.{_≤_, _<_, _*_, _-_, _^_};
 ghost use Rattle.text.specs.Scan.{tokens};
-ghost use Rattle.reply_reader.specs.Inside.{wordOf, sixOf};
+ghost use Rattle.reply.specs.Inside.{wordOf, sixOf};
 
 // A token as a packed word, or that it is not of one to four letters.
 pub enum Word {

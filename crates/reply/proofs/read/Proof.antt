@@ -1,8 +1,8 @@
 -- `read` meets its promise.
 use borrow.Author.Needs.{needs}
-use Rattle.reply_reader.proofs.Answered.{too-long, as-words, as-hex}
-use Rattle.reply_reader.proofs.read.Statement.{statement}
-use Rattle.reply_reader.proofs.read.Tie as tie
+use Rattle.reply.proofs.Answered.{too-long, as-words, as-hex}
+use Rattle.reply.proofs.read.Statement.{statement}
+use Rattle.reply.proofs.read.Tie as tie
 
 pub read-spec : {M : Type 1} → statement M
 read-spec =

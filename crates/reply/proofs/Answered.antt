@@ -12,11 +12,11 @@ use Rattle.text.specs.Scan.{tokens, unspaced}
 use Rattle.dictionary.specs.declared.Found.{Found}
 use Rattle.dictionary.specs.Dictionary.{foundOf, placeOf}
 use Rattle.dictionary.specs.Laws.{place-packed}
-use Rattle.reply_reader.specs.declared.typed_words.Six.{Six}
+use Rattle.reply.specs.declared.typed_words.Six.{Six}
 use Rattle.hex.specs.Hex.{hexReading}
 use Rattle.reply.specs.Reading.{isWord, upperText, sixWords, foundAfter, wordsReading, readingOf}
 use Rattle.reply.specs.Laws.{spelt-token, six-parts}
-use Rattle.reply_reader.specs.Inside.{packedToken, sixOf}
+use Rattle.reply.specs.Inside.{packedToken, sixOf}
 
 -- the answer of `six_words`
 abbrev sixIs : Bool → List ℕ → Six

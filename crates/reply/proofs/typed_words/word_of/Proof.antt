@@ -8,8 +8,8 @@ use lib.ListN.{length, getD, drop}
 use Rattle.text.specs.Kinds.{isLetter}
 use Rattle.text.specs.Tests.{every}
 use Rattle.dictionary.specs.Dictionary.{numberFrom}
 use Rattle.reply.specs.Reading.{upperText}
-use Rattle.reply_reader.proofs.typed_words.TypedLetters.{
+use Rattle.reply.proofs.typed_words.TypedLetters.{
   none-left-every,
   none-left-number,
   letter-grows,
@@ -23,8 +23,8 @@ use Rattle.reply_reader.proofs.typed_words.TypedLetters.{
   mixed-other,
   letters-word,
 }
-use Rattle.reply_reader.proofs.typed_words.word_of.Statement.{statement}
-use Rattle.reply_reader.proofs.typed_words.word_of.Tie as tie
+use Rattle.reply.proofs.typed_words.word_of.Statement.{statement}
+use Rattle.reply.proofs.typed_words.word_of.Tie as tie
 
 abbrev Inv-loop : tie.InvT-loop
 Inv-loop t n letters₀ i₀ letters i =

@@ -6,9 +6,9 @@ use lib.ListN.{length, take, drop, replicate}
 use Rattle.text.specs.Kinds.{isWhite, isSolid}
 use Rattle.text.specs.Scan.{runOf}
 use Rattle.dictionary.specs.Dictionary.{packed}
-use Rattle.reply_reader.specs.declared.typed_words.Word.{Word}
-use Rattle.reply_reader.specs.declared.typed_words.Six.{Six}
+use Rattle.reply.specs.declared.typed_words.Word.{Word}
+use Rattle.reply.specs.declared.typed_words.Six.{Six}
 use Rattle.reply.specs.Reading.{isWord, sixWords, upperText}
 
 -- the first token of a text; nothing where there is none
 unfoldable pub firstToken : List ℕ → List ℕ

@@ -1,8 +1,8 @@
 -- `filled` meets its promise.
 use native.Mathlib.Omega.{arith}
-use Rattle.reply_reader.proofs.typed_words.TypedLetters.{one-filled, two-filled, rest-filled}
-use Rattle.reply_reader.proofs.typed_words.filled.Statement.{statement}
-use Rattle.reply_reader.proofs.typed_words.filled.Tie as tie
+use Rattle.reply.proofs.typed_words.TypedLetters.{one-filled, two-filled, rest-filled}
+use Rattle.reply.proofs.typed_words.filled.Statement.{statement}
+use Rattle.reply.proofs.typed_words.filled.Tie as tie
 
 pub filled-spec : {M : Type 1} → statement M
 filled-spec =

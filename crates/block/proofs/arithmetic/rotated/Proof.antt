@@ -4,8 +4,8 @@ use mathlib.Core.Path.{_≡_, ap}
 use borrow.Author.Needs.{needs}
 use native.Mathlib.Omega.{arith}
 use Rattle.digests.specs.Rounds.{rotated}
-use Rattle.block.proofs.words.rotated.Statement.{statement}
-use Rattle.block.proofs.words.rotated.Tie as tie
+use Rattle.block.proofs.arithmetic.rotated.Statement.{statement}
+use Rattle.block.proofs.arithmetic.rotated.Tie as tie
 
 returns : tie.Need-returns
 returns c =

@@ -3,7 +3,7 @@ use borrow.Author.Needs.{needs}
 use Prim.Native.Nat.{_≤_, _-_}
 use native.Mathlib.Omega.{arith}
 use lib.ListN.{length-drop}
-use Rattle.reply_reader.proofs.typed_words.TokensRead.{
+use Rattle.reply.proofs.typed_words.TokensRead.{
   Scanned,
   scanned-none,
   white-within,
@@ -15,8 +15,8 @@ use Rattle.reply_reader.proofs.typed_words.TokensRead.{
   none-six,
   all-six,
 }
-use Rattle.reply_reader.proofs.typed_words.six_words.Statement.{statement}
-use Rattle.reply_reader.proofs.typed_words.six_words.Tie as tie
+use Rattle.reply.proofs.typed_words.six_words.Statement.{statement}
+use Rattle.reply.proofs.typed_words.six_words.Tie as tie
 
 abbrev Inv-loop : tie.InvT-loop
 Inv-loop s words₀ at₀ k₀ words at k = (k ≤ 6) × Scanned s k at words

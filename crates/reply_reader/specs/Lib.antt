@@ -1,2 +1,0 @@
--- What the promises of `reply_reader` cite.
-pub mod Inside
