@@ -10,7 +10,7 @@ use Rattle.md5.specs.Digest.{digestOf}
 use Rattle.password.specs.Password.{Algorithm, generated}
 use Rattle.challenge.specs.Challenges.{challengeOf, challengeWritten}
 use Rattle.cards.specs.Cards.{cardWritten}
-use Rattle.reply.specs.Reading.{readingOf}
+use Rattle.reply.specs.Reply.{readingOf}
 use Rattle.table.specs.Table.{State}
 use Rattle.reached.specs.Calls.{Call, Answer, answer, after}
 use Rattle.reached.specs.InTurn.{Reached}

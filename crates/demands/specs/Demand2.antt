@@ -22,7 +22,7 @@ use Rattle.challenge.specs.Challenges.{challengeOf, seedOf, challengeText}
 use Rattle.readback.specs.ChallengeRead.{written-read, written-seed-read}
 use Rattle.hex.specs.Hex.{hexOf}
 use Rattle.sixwords.specs.Spelling.{sixWordsOf, wordsOf}
-use Rattle.reply.specs.Reading.{sixWords, upperText, readingOf}
+use Rattle.reply.specs.Reply.{sixWords, upperText, readingOf}
 use Rattle.readback.specs.ReplyRead as Laws
 use Rattle.cards.specs.CardLines.{cardText}
 use Rattle.cards.specs.CardChecks.{countOf, cardChecked}

@@ -17,7 +17,7 @@ use Rattle.text.specs.Counts.{isCount}
 use Rattle.challenge.specs.Challenges.{opening, algorithm, tokenAt, nextAt, countAt, seedAt, challengeOf, seedOf}
 use Rattle.text.specs.Tests.{same}
 use Rattle.hex.specs.Hex.{sixteenDigits, hexReading}
-use Rattle.reply.specs.Reading.{isWord, sixWords, foundAfter, readingOf}
+use Rattle.reply.specs.Reply.{isWord, sixWords, foundAfter, readingOf}
 
 -- What an example asks for: the places of a number, its pair sum, what a challenge says, or a reply.
 pub data Asked : Type 0 where

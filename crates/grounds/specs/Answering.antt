@@ -22,7 +22,7 @@ use Rattle.challenge.specs.Challenges.{challengeOf, seedOf, challengeWritten}
 use Rattle.readback.specs.ChallengeRead.{written-read, written-seed-read}
 use Rattle.hex.specs.Hex.{hexOf}
 use Rattle.sixwords.specs.Spelling.{wordsOf}
-use Rattle.reply.specs.Reading.{readingOf}
+use Rattle.reply.specs.Reply.{readingOf}
 use Rattle.readback.specs.ReplyRead.{hex-written-read, words-written-read}
 use Rattle.table.specs.declared.Replied.{Replied}
 use Rattle.accounts.specs.Rooms.{Room}

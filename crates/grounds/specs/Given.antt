@@ -23,7 +23,7 @@ use Rattle.challenge.specs.Challenges.{opening, algorithm, tokenAt, nextAt, cou
 use Rattle.text.specs.Tests.{same}
 use Rattle.hex.specs.Hex.{hexOf}
 use Rattle.hex.specs.Hex.{sixteenDigits, hexReading}
-use Rattle.reply.specs.Reading.{isWord, sixWords, foundAfter, readingOf}
+use Rattle.reply.specs.Reply.{isWord, sixWords, foundAfter, readingOf}
 use Rattle.cards.specs.CardChecks.{cardChecked}
 use Rattle.cards.specs.Cards.{cardWritten}
 use Rattle.line.specs.Line.{some, joined, others, turnWithout, without}

@@ -12,7 +12,7 @@ use Rattle.text.specs.Put.{writtenOf}
 use Rattle.md5.specs.Digest.{digestOf}
 use Rattle.password.specs.Password.{Algorithm, generated}
 use Rattle.challenge.specs.Challenges.{challengeOf}
-use Rattle.reply.specs.Reading.{readingOf}
+use Rattle.reply.specs.Reply.{readingOf}
 use Rattle.hex.specs.Hex.{hexOf}
 use Rattle.cards.specs.Cards.{cardWritten}
 use Rattle.table.specs.Table.{fresh}

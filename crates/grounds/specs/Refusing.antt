@@ -46,7 +46,7 @@ use Rattle.challenge.specs.Challenges.{
 }
 use Rattle.text.specs.Tests.{same}
 use Rattle.hex.specs.Hex.{sixteenDigits, hexReading}
-use Rattle.reply.specs.Reading.{sixWords, upperText, summed, foundAfter, readingOf}
+use Rattle.reply.specs.Reply.{sixWords, upperText, summed, foundAfter, readingOf}
 use Rattle.cards.specs.CardChecks.{challengeChecked, countOf, linesChecked, cardChecked}
 use Rattle.cards.specs.Cards.{cardOf, cardWritten}
 use Rattle.line.specs.Line.{standsIn}

@@ -11,7 +11,7 @@ use Rattle.refusal.specs.declared.Checked.{Checked}
 use Rattle.refusal.specs.declared.Reading.{Reading}
 use Rattle.refusal.specs.Checks.{unless}
 use Rattle.password.specs.Password.{Algorithm, bytesOf, hash}
-use Rattle.reply.specs.Reading.{readingOf}
+use Rattle.reply.specs.Reply.{readingOf}
 use Rattle.line.specs.Line.{standsIn}
 use Rattle.table.specs.declared.Replied.{Replied}
 use Rattle.accounts.specs.Rooms.{Room}

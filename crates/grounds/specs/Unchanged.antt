@@ -21,7 +21,7 @@ use Rattle.dictionary.specs.Dictionary.{placeOf}
 use Rattle.sixwords.specs.declared.Number.{Number}
 use Rattle.sixwords.specs.Places.{numberOf as placesNumber}
 use Rattle.hex.specs.Hex.{sixteenDigits, hexReading}
-use Rattle.reply.specs.Reading.{isWord, sixWords, upperText, summed, foundAfter, readingOf}
+use Rattle.reply.specs.Reply.{isWord, sixWords, upperText, summed, foundAfter, readingOf}
 use Rattle.table.specs.declared.Replied.{Replied}
 use Rattle.accounts.specs.Rooms.{Room}
 use Rattle.table.specs.Table.{State, accountOf, portOf, turnId}

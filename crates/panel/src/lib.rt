@@ -8,7 +8,7 @@ ghost use Rattle.md5.specs.Digest.{digestOf};
 ghost use Rattle.panel.specs.Answers.{challengeRow, readingRow, Reported};
 ghost use Rattle.password.specs.Password as Password;
 ghost use Rattle.password.specs.Password.{numberOf, bytesOf};
-ghost use Rattle.reply.specs.Reading.{readingOf};
+ghost use Rattle.reply.specs.Reply.{readingOf};
 ghost use Rattle.sixwords.specs.Spelling.{wordsOf};
 ghost use Rattle.text.specs.Put.{writtenOf};
 ghost use lib.ListN.{length};

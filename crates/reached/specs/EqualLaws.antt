@@ -19,7 +19,7 @@ use Rattle.text.specs.Tests.{both, same}
 use Rattle.password.specs.PhraseAndSeed.{seedChecked}
 use Rattle.password.specs.Password.{Algorithm, hash, bytesOf}
 use Rattle.challenge.specs.Challenges.{challengeWritten}
-use Rattle.reply.specs.Reading.{readingOf}
+use Rattle.reply.specs.Reply.{readingOf}
 use Rattle.line.specs.Line.{Waiting}
 use Rattle.port.specs.declared.Port.{Port}
 use Rattle.port.specs.Port.{wrongAnswer}

@@ -16,7 +16,7 @@ use Rattle.text.specs.Tests.{every, both}
 use Rattle.password.specs.PhraseAndSeed.{plain, seedChecked}
 use Rattle.password.specs.PhraseAndSeedLaws.{good-seed}
 use Rattle.password.specs.Password.{Algorithm, hash, bytesOf}
-use Rattle.reply.specs.Reading.{readingOf}
+use Rattle.reply.specs.Reply.{readingOf}
 use Rattle.line.specs.Line as Line
 use Rattle.line.specs.Line.{standsIn}
 use Rattle.accounts.specs.Rooms.{Room, free, placeOf, holds}

@@ -10,7 +10,7 @@ use Rattle.password.specs.Laws.{generated-good}
 use Rattle.password.specs.Bounds.{password-bound}
 use Rattle.hex.specs.Hex.{hexOf}
 use Rattle.sixwords.specs.Spelling.{wordsOf}
-use Rattle.reply.specs.Reading.{readingOf}
+use Rattle.reply.specs.Reply.{readingOf}
 use Rattle.text.specs.Counts.{decimalOf}
 use Rattle.challenge.specs.Challenges.{challengeOf, seedOf}
 use Rattle.challenge.specs.Laws.{read-seed-good, read-count-low}

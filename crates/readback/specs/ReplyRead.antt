@@ -27,7 +27,7 @@ use Rattle.sixwords.specs.Laws.{places-count, places-all}
 use Rattle.hex.specs.Hex.{hexOf, sixteenDigits, hexReading}
 use Rattle.sixwords.specs.Spelling.{spaced, sixWordsOf, wordsOf}
 use Rattle.sixwords.specs.SpellingLaws.{words-length}
-use Rattle.reply.specs.Reading.{sixWords, upperText, summed, foundAfter, wordsReading, readingOf}
+use Rattle.reply.specs.Reply.{sixWords, upperText, summed, foundAfter, wordsReading, readingOf}
 use Rattle.reply.specs.Laws.{six-parts}
 use Rattle.readback.specs.PlacesRead.{number-places, number-accepted}
 use Rattle.readback.specs.WordsRead.{places-words, places-upper, places-found, tokens-spaced, found-all, found-password, found-tokens}

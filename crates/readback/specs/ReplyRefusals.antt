@@ -21,7 +21,7 @@ use Rattle.sixwords.specs.declared.Number.{Number}
 use Rattle.sixwords.specs.Places.{allPlaces, numberOf as placesNumber}
 use Rattle.hex.specs.Hex.{sixteenDigits, hexReading}
 use Rattle.sixwords.specs.Spelling.{sixWordsOf}
-use Rattle.reply.specs.Reading.{isWord, sixWords, upperText, summed, foundAfter, readingOf}
+use Rattle.reply.specs.Reply.{isWord, sixWords, upperText, summed, foundAfter, readingOf}
 use Rattle.reply.specs.Laws.{spelt-token, six-parts}
 use Rattle.readback.specs.PlacesRead.{number-accepted}
 use Rattle.readback.specs.WordsRead.{places-found, found-all}

@@ -20,7 +20,7 @@ use Rattle.dictionary.specs.Laws.{word-upper, word-spelt, found-word}
 use Rattle.sixwords.specs.declared.Number.{Number}
 use Rattle.sixwords.specs.Places.{allPlaces, numberOf}
 use Rattle.sixwords.specs.Spelling.{spacedFrom}
-use Rattle.reply.specs.Reading.{isWord, upperText, summed, foundAfter}
+use Rattle.reply.specs.Reply.{isWord, upperText, summed, foundAfter}
 use Rattle.reply.specs.Laws.{spelt-token}
 
 -- the words of the dictionary are words, solid, and in upper case

@@ -14,7 +14,7 @@ use Rattle.dictionary.specs.Dictionary.{foundOf, placeOf}
 use Rattle.dictionary.specs.Laws.{place-packed}
 use Rattle.reply.specs.declared.typed_words.Six.{Six}
 use Rattle.hex.specs.Hex.{hexReading}
-use Rattle.reply.specs.Reading.{isWord, upperText, sixWords, foundAfter, wordsReading, readingOf}
+use Rattle.reply.specs.Reply.{isWord, upperText, sixWords, foundAfter, wordsReading, readingOf}
 use Rattle.reply.specs.Laws.{spelt-token, six-parts}
 use Rattle.reply.specs.Inside.{packedToken, sixOf}
 

@@ -12,7 +12,7 @@ use Rattle.dictionary.specs.Words.{wordsIn, lines, words}
 use Rattle.dictionary.specs.Dictionary.{standsFrom, placeOf}
 use Rattle.sixwords.specs.Places.{pairs, pairSum, joined, allPlaces, numberOf}
 use Rattle.hex.specs.Hex.{sixteenDigits, hexReading}
-use Rattle.reply.specs.Reading.{isWord, sixWords, foundAfter, readingOf}
+use Rattle.reply.specs.Reply.{isWord, sixWords, foundAfter, readingOf}
 
 -- a reply and what it says
 abbrev pub Example : Type 0

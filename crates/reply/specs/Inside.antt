@@ -8,7 +8,7 @@ use Rattle.text.specs.Scan.{runOf}
 use Rattle.dictionary.specs.Dictionary.{packed}
 use Rattle.reply.specs.declared.typed_words.Word.{Word}
 use Rattle.reply.specs.declared.typed_words.Six.{Six}
-use Rattle.reply.specs.Reading.{isWord, sixWords, upperText}
+use Rattle.reply.specs.Reply.{isWord, sixWords, upperText}
 
 -- the first token of a text; nothing where there is none
 unfoldable pub firstToken : List ℕ → List ℕ

@@ -11,7 +11,7 @@ use Rattle.text.specs.Kinds.{isLetter, upperOf}
 use Rattle.text.specs.KindLaws.{letter-upper}
 use Rattle.text.specs.Tests.{every, every-at, both}
 use Rattle.dictionary.specs.Laws.{Spelt}
-use Rattle.reply.specs.Reading.{isWord, sixWords, upperText}
+use Rattle.reply.specs.Reply.{isWord, sixWords, upperText}
 
 -- what makes a token a word
 pub word-parts : (t : List ℕ) → isWord t ≡ true → (0 < length t) × (length t ≤ 4) × (every isLetter t ≡ true)

@@ -8,7 +8,7 @@ use wordlist::place_of;
 ghost use mathlib.Core.Path.{_≡_};
 ghost use mathlib.Core.List.{[], map};
 ghost use Rattle.dictionary.specs.Dictionary.{foundOf};
-ghost use Rattle.reply.specs.Reading.{foundAfter};
+ghost use Rattle.reply.specs.Reply.{foundAfter};
 
 // The password that six packed words stand for.
 pub fn read_words(words: [u32; 6]) -> Reading

@@ -5,7 +5,7 @@ use hex::read_hex;
 use refusal::Reading;
 use refusal::Refusal;
 ghost use mathlib.Core.Path.{_≡_};
-ghost use Rattle.reply.specs.Reading.{readingOf};
+ghost use Rattle.reply.specs.Reply.{readingOf};
 
 // The tokens of a reply as packed words of the dictionary.
 mod typed_words;

@@ -11,7 +11,7 @@ use Rattle.refusal.specs.Checks.{unless, inOrder}
 use Rattle.password.specs.PhraseAndSeed.{seedChecked}
 use Rattle.password.specs.Password.{Algorithm, hash, bytesOf}
 use Rattle.challenge.specs.Challenges.{challengeText, challengeWritten}
-use Rattle.reply.specs.Reading.{readingOf}
+use Rattle.reply.specs.Reply.{readingOf}
 use Rattle.line.specs.Line.{joined, left, removed, ticked}
 use Rattle.port.specs.Port.{wrongly, wrongAnswer, rightly, cooled}
 use Rattle.table.specs.declared.Replied.{Replied}

@@ -10,7 +10,7 @@ use Rattle.refusal.specs.declared.Reading.{Reading}
 use Rattle.dictionary.specs.declared.Found.{Found}
 use Rattle.dictionary.specs.Dictionary.{foundOf}
 use Rattle.sixwords.specs.Places.{numberOf}
-use Rattle.reply.specs.Reading.{summed, foundAfter}
+use Rattle.reply.specs.Reply.{summed, foundAfter}
 
 module _ (ws ps : List ℕ) (k : ℕ) (h : k < length ws) where
   -- the next word is not in the dictionary

@@ -15,7 +15,7 @@ use Rattle.text.specs.Kinds.{isUpper, isLower, isLetter, lowerOf, upperOf}
 use Rattle.text.specs.Tests.{every, second-fails, cases, both}
 use Rattle.dictionary.specs.Dictionary.{numberFrom, packed}
 use Rattle.reply.specs.declared.typed_words.Word.{Word}
-use Rattle.reply.specs.Reading.{isWord, upperText}
+use Rattle.reply.specs.Reply.{isWord, upperText}
 use Rattle.reply.specs.Inside.{packedToken, wordOf}
 
 -- zeros up to three letters

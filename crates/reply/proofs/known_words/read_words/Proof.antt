@@ -6,7 +6,7 @@ use Prim.Native.Nat.{_≤_, _-_, _+_}
 use native.Mathlib.Omega.{arith}
 use lib.ListN.{length, take, drop, length-set}
 use Rattle.dictionary.specs.Dictionary.{foundOf}
-use Rattle.reply.specs.Reading.{summed, foundAfter}
+use Rattle.reply.specs.Reply.{summed, foundAfter}
 use Rattle.reply.proofs.known_words.Looked.{word-unknown, word-known, words-known}
 use Rattle.reply.proofs.known_words.read_words.Statement.{statement}
 use Rattle.reply.proofs.known_words.read_words.Tie as tie

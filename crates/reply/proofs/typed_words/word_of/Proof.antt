@@ -8,7 +8,7 @@ use lib.ListN.{length, getD, drop}
 use Rattle.text.specs.Kinds.{isLetter}
 use Rattle.text.specs.Tests.{every}
 use Rattle.dictionary.specs.Dictionary.{numberFrom}
-use Rattle.reply.specs.Reading.{upperText}
+use Rattle.reply.specs.Reply.{upperText}
 use Rattle.reply.proofs.typed_words.TypedLetters.{
   none-left-every,
   none-left-number,

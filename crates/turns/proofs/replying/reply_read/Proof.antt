@@ -3,7 +3,7 @@ use Prim.Native.Nat.{ℕ}
 use mathlib.Core.Path.{_≡_, sym, ap, _∙_}
 use borrow.Author.Needs.{needs}
 use Rattle.refusal.specs.declared.Reading.{Reading}
-use Rattle.reply.specs.Reading.{readingOf}
+use Rattle.reply.specs.Reply.{readingOf}
 use Rattle.accounts.specs.Rooms.{Room}
 use Rattle.accounts.specs.Accounts.{lowered}
 use Rattle.table.specs.declared.Replied.{Replied}
