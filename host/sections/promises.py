@@ -88,11 +88,9 @@ def promised():
 def asking():
     """The functions that ask something of their callers are those of the list."""
     listed = {name for cells in section("Inner functions with a `requires`") for name in named(cells[0])}
-    short = {name.split("::")[0] + "::" + name.split("::")[-1] for name in listed}
-    asks = {name.split("::")[0] + "::" + name.split("::")[-1]: head for name, head in functions()
-            if re.search(r"^\s*requires \{", head, re.M)}
-    if short != set(asks):
-        raise Failed(f"listed or asking, not both: {', '.join(sorted(short ^ set(asks)))}")
+    asks = {name for name, head in functions() if re.search(r"^\s*requires \{", head, re.M)}
+    if listed != asks:
+        raise Failed(f"listed or asking, not both: {', '.join(sorted(listed ^ asks))}")
     return len(asks)
 
 
