@@ -5,6 +5,7 @@ runs each section below, a line each. Any failure ends it with status 1. With
 an argument it tests that archive and builds none.
 """
 import pathlib
+import subprocess
 import sys
 import time
 
@@ -58,7 +59,7 @@ def said_of(name, section, *given):
     started = time.monotonic()
     try:
         outcome, passed = section(*given), True
-    except harness.Failed as failure:
+    except (harness.Failed, OSError, subprocess.SubprocessError) as failure:
         outcome, passed = f"FAILED: {failure}", False
     print(f"host: {name}: {outcome} ({time.monotonic() - started:.1f} s)", flush=True)
     return passed

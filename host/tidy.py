@@ -79,6 +79,13 @@ def mended(path, text):
     return "".join(out) + text[at:]
 
 
+def wide(text):
+    """The lines that are too long: their numbers and lengths."""
+    for number, line in enumerate(text.split("\n"), 1):
+        if len(line) > WIDEST:
+            yield number, len(line)
+
+
 def faults():
     """What is to be mended, a line each."""
     for path in sources():
@@ -86,9 +93,8 @@ def faults():
         place = path.relative_to(ROOT)
         for found, item in unused(path, text):
             yield f"{place}:{text.count(chr(10), 0, found.start()) + 1}: imported and not used: {item}"
-        for number, line in enumerate(text.split("\n"), 1):
-            if len(line) > WIDEST:
-                yield f"{place}:{number}: {len(line)} characters"
+        for number, length in wide(text):
+            yield f"{place}:{number}: {length} characters"
 
 
 def main(arguments):

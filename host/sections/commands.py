@@ -18,12 +18,13 @@ echo "$(basename "$0") $*"
 [ "$*" != "$FAILS" ] || exit 1
 [ "$*" != ci ] || echo "$VERDICT"
 """
+TO_THE_TOP = ["set -euo pipefail", 'cd "$(dirname "$0")/.."']
 STEPS = ["rt fmt --check", "rt ci", VERDICT, "python3 host/test.py", VERDICT]
 
 
 def printed(target, words, more, **options):
     """The status of make and the lines of its standard output."""
-    done = subprocess.run(["make", *words, target], cwd=ROOT, timeout=1800, env=typed(**more), stdout=subprocess.PIPE,
+    done = subprocess.run(["make", *words, target], cwd=ROOT, timeout=1800, env=typed(LC_ALL="C", **more), stdout=subprocess.PIPE,
                           stderr=subprocess.DEVNULL, **options)
     return done.returncode, done.stdout.decode("latin-1").splitlines()
 
@@ -32,7 +33,8 @@ def between(lines, framed):
     """The lines between the two that make itself prints where it names its directory."""
     if not framed:
         return lines
-    if not (re.match(r"make: Entering directory", lines[0]) and re.match(r"make: Leaving directory", lines[-1])):
+    ends = " ".join(lines[:1] + lines[-1:])
+    if not re.fullmatch(r"make: Entering directory '.*' make: Leaving directory '.*'", ends):
         raise Failed(f"not between make's two lines: {lines}")
     return lines[1:-1]
 
@@ -74,11 +76,11 @@ def makes(driver):
 
 
 def same_command(readme, run):
-    """The command under the README's heading for tests is the one that .ci/run ends in, to the letter."""
+    """.ci/run goes to the top of the clone, and then does what stands under the README's heading for tests, to the letter."""
     shown = re.search(r"^## Test it\n+```console\n\$ (.*)\n```$", readme, re.M)
-    last = run.rstrip("\n").rpartition("\n")[2]
-    if not shown or last != f"exec {shown[1]}":
-        raise Failed(f"README.md: {shown and shown[1]!r}; .ci/run: {last!r}")
+    steps = [line for line in run.splitlines() if not line.startswith("#")]
+    if not shown or steps != [*TO_THE_TOP, f"exec {shown[1]}"]:
+        raise Failed(f"README.md: {shown and shown[1]!r}; .ci/run: {steps}")
     return f"`{shown[1]}`, in README.md and in .ci/run"
 
 

@@ -9,6 +9,10 @@ CRATES = ROOT / "crates"
 KIT = {"bytes", "check", "io", "libc", "os"}
 # Kinds of file, once in each crate; every other name stands for one thing.
 KINDS = {"lib", "main", "laws", "inside", "examples"}
+# A standard's definition has the name of the code that does it.
+DEFINED = {("digests", "md5"), ("digests", "rounds")}
+# The crates of a table's fields: who takes a table apart lists them too.
+FIELDS = {"accounts", "line", "port"}
 
 
 def listed():
@@ -32,14 +36,19 @@ def named_in(crate):
     return (found & (set(listed()) | KIT)) - {crate}
 
 
-def uses(driver):
-    """Each line of crates.txt names what the crate's sources name, and no more; a program's also the crates of a table's fields."""
-    crates = listed()
+def held_to(crates, named):
+    """Each crate's line names what its sources name, and no more; a program that takes a table apart also the crates of its fields."""
     for crate, below in crates.items():
-        spare = set(below) - named_in(crate) - ({"accounts", "line", "port"} if is_program(crate) else set())
-        missing = named_in(crate) - set(below)
+        spare = set(below) - named(crate) - (FIELDS if is_program(crate) and "table" in below else set())
+        missing = named(crate) - set(below)
         if spare or missing:
             raise Failed(f"crates.txt, {crate}: not used {sorted(spare)}, not listed {sorted(missing)}")
+
+
+def uses(driver):
+    """crates.txt has what the sources name."""
+    crates = listed()
+    held_to(crates, named_in)
     return f"{len(crates)} crates, {sum(map(len, crates.values()))} uses: crates.txt has those of the sources"
 
 
@@ -82,22 +91,20 @@ def layers(driver):
 def names(crate):
     """The names that a crate brings: its own, its modules', its definitions' and its shared proofs', by their kind."""
     folder = CRATES / crate
-    yield "crate", crate
+    yield "crate", crate.replace("_", "")
     for kind, pattern in (("module", "src/**/*.rt"), ("definitions", "specs/**/*.antt"), ("proofs", "proofs/**/*.antt")):
         modules = {path.stem for path in folder.glob("src/**/*.rt")}
         for path in folder.glob(pattern):
             if path.name != "Proof.antt" and not (kind == "proofs" and path.stem in modules):
-                yield kind, path.stem.lower()
+                yield kind, path.stem.lower().replace("_", "")
 
 
-def one_thing(crates):
-    """A name for two things: in two crates, or twice for one kind in a crate."""
+def one_thing(brought):
+    """A name for two things: in two crates, or twice for one kind in a crate. Hands back how many names there are."""
     homes = collections.defaultdict(set)
-    for crate in crates:
-        seen = collections.Counter(names(crate))
-        for (kind, name), count in seen.items():
-            # a standard's definition, MD5 or its rounds, has the name of the code that does it
-            if name not in KINDS and crate != "digests":
+    for crate, found in brought.items():
+        for (kind, name), count in collections.Counter(found).items():
+            if name not in KINDS and (crate, name) not in DEFINED:
                 homes[name].add(crate)
             if count > 1 and not (kind == "proofs" and name == "lib"):
                 raise Failed(f"{crate}: {count} files for {kind} are called {name}")
@@ -109,7 +116,7 @@ def one_thing(crates):
 
 def words(driver):
     """No two crates, modules or files have one name for two things."""
-    return f"{one_thing(listed())} names of crates, modules and files, each in one crate"
+    return f"{one_thing({crate: list(names(crate)) for crate in listed()})} names of crates, modules and files, each in one crate"
 
 
 def layout(driver):

@@ -53,7 +53,7 @@ def files():
 
 def edits():
     """The must-fail edits of the wrong programs."""
-    names = [name for cells in section("Wrong programs") for name in cells[2].split(", ")]
+    names = [name for cells in section("Wrong programs") for name in re.findall(r"\w+/\w+", cells[2])]
     for name in names:
         crate, _, edit = name.partition("/")
         if not (CRATES / crate / "must-fail" / f"{edit}.edit").is_file():
@@ -85,6 +85,16 @@ def promised():
     return len(names)
 
 
+def pages():
+    """The files that the sentences' statements name behind a crate."""
+    names = {pair for heading in ("The letter's demands", "Document 01") for cells in section(heading)
+             for pair in re.findall(r"`(\w+)` ([A-Z]\w+)", cells[1])}
+    for crate, page in sorted(names):
+        if not (CRATES / crate / "specs" / f"{page}.antt").is_file():
+            raise Failed(f"no such file: {page} of {crate}")
+    return len(names)
+
+
 def asking():
     """The functions that ask something of their callers are those of the list."""
     listed = {name for cells in section("Inner functions with a `requires`") for name in named(cells[0])}
@@ -94,13 +104,20 @@ def asking():
     return len(asks)
 
 
+def is_open(crate, inside):
+    """Whether each module on the way is public in the one that holds it."""
+    for depth, part in enumerate(inside):
+        holder = "/".join(inside[:depth]) or "lib"
+        if f"pub mod {part};" not in (CRATES / crate / "src" / f"{holder}.rt").read_text():
+            return False
+    return True
+
+
 def public():
-    """The functions of the libraries that another crate can name: by modules that are public, or handed on at the crate's root."""
+    """The functions of the libraries that another crate can name."""
     for name, head in functions():
-        crate, *inside, function = name.split("::")
-        root = (CRATES / crate / "src" / "lib.rt").read_text()
-        handed_on = f"pub use {'::'.join(['crate', *inside, function])};" in root
-        if head.startswith("pub ") and (handed_on or all(f"pub mod {part};" in root for part in inside)):
+        crate, *inside, _ = name.split("::")
+        if head.startswith("pub ") and is_open(crate, inside):
             yield name
 
 
@@ -119,5 +136,5 @@ def determined():
 
 def page(driver):
     """Everything that the page names or lists."""
-    return (f"{files()} files, {theorems()} theorems, {promised()} functions, {edits()} edits, "
+    return (f"{files()} files, {pages()} behind their crates, {theorems()} theorems, {promised()} functions, {edits()} edits, "
             f"{asking()} inner functions; {determined()} public functions, each with its theorem that its promise determines its results")

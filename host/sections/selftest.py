@@ -54,29 +54,52 @@ def refusals_can_fail(driver):
 def gate_can_fail(driver):
     """A flag that .ci/run has and the README has not, or the other way round, is found."""
     readme = "## Test it\n\n```console\n$ make %stest\n```\n"
+    run = "\n".join(["#!/usr/bin/env bash", *commands.TO_THE_TOP, "exec make test", ""])
     found = [
-        not fails(commands.same_command, readme % "", "cd ..\nexec make test\n"),
-        fails(commands.same_command, readme % "", "cd ..\nexec make --no-print-directory test\n"),
-        fails(commands.same_command, readme % "-s ", "cd ..\nexec make test\n"),
-        fails(commands.same_command, readme % "", "exec make test\ntrue\n"),
+        not fails(commands.same_command, readme % "", run),
+        fails(commands.same_command, readme % "", run.replace("make", "make --no-print-directory")),
+        fails(commands.same_command, readme % "", run.replace("exec", "export MAKEFLAGS=-s\nexec")),
+        fails(commands.same_command, readme % "-s ", run),
+        fails(commands.same_command, readme % "", run + "true\n"),
     ]
     if not all(found):
-        raise Failed(f"of the four, as they should be: {found}")
+        raise Failed(f"of the five, as they should be: {found}")
     return f"{len(found)} pairs of commands: a flag in one of them is reported, and nothing else"
 
 
-def house_can_fail(driver):
-    """A use that runs upwards or to the left, a crate that is drawn twice or not at all, an import that nothing uses, are found."""
+def drawings():
+    """A drawing that is true, and three that aren't: a use to the left, a crate drawn twice, one not drawn."""
     crates = {"card": ["cards", "io"], "cards": ["text"], "text": []}
     right = "What stands higher uses what stands below it:\n\n    card   a program\n    cards  text   the rest\n\n"
     wrong = [right.replace("cards  text", "text  cards"), right.replace("    card ", "    text  card "),
              right.replace("cards  text", "cards")]
     held = [lambda drawing=drawing: house.true_of(house.drawn(drawing), crates) for drawing in [right, *wrong]]
+    return [not fails(held[0]), *(fails(check) for check in held[1:])]
+
+
+def imports():
+    """A page all of whose imports are used, and three with one that isn't; a line of 160 characters, and one of 161."""
     page = pathlib.Path("Page.antt")
     text = "use a.B.{one, _two_}\nuse a.C as c\n\nthree : one two c.x\nthree = one\n"
     unused = [list(tidy.unused(page, each)) for each in
               (text, text.replace(" c.x", ""), text.replace(" two", ""), text.replace("one two", "ones two").replace("= one", "= 1"))]
-    found = [not fails(held[0]), *(fails(check) for check in held[1:]), not unused[0], *unused[1:]]
+    return [not unused[0], *map(bool, unused[1:]), not list(tidy.wide("x" * 160)), bool(list(tidy.wide("x\n" + "x" * 161)))]
+
+
+def names_and_uses():
+    """Names that are each for one thing, and two that aren't; uses that are listed, one too many and one missing."""
+    brought = {"line": [("crate", "line"), ("module", "laws")], "port": [("crate", "port"), ("definitions", "laws")]}
+    same = {**brought, "port": [*brought["port"], ("definitions", "line")]}
+    twice = {**brought, "port": [*brought["port"], ("module", "shut"), ("module", "shut")]}
+    named = {"line": set(), "port": {"line"}}.get
+    lists = [{"line": [], "port": ["line"]}, {"line": ["port"], "port": ["line"]}, {"line": [], "port": []}]
+    return [not fails(house.one_thing, brought), fails(house.one_thing, same), fails(house.one_thing, twice),
+            not fails(house.held_to, lists[0], named), *(fails(house.held_to, each, named) for each in lists[1:])]
+
+
+def house_can_fail(driver):
+    """What isn't so of the drawing, the imports, the lines, the names and the uses is found."""
+    found = [*drawings(), *imports(), *names_and_uses()]
     if not all(found):
-        raise Failed(f"of the eight, as they should be: {found}")
-    return f"{len(found)} cases: a drawing that isn't true, and an import that nothing uses, are reported, and nothing else"
+        raise Failed(f"of the {len(found)}, as they should be: {found}")
+    return f"{len(found)} cases: what isn't so is reported, and nothing else"

@@ -1,4 +1,4 @@
--- What becomes of an account: what the promises of `accounts` cite, and a law for Enrol.
+-- A room and its account, what becomes of an account, which the promises of `accounts` cite; laws, and an example.
 pub mod Accounts
 pub mod Laws
 pub mod Examples

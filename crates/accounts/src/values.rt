@@ -10,8 +10,8 @@ use crate::Proposed;
 use crate::seeds::same_seed;
 use crate::seeds::seed_len;
 use password::eight_bytes::number_of;
-use password::inputs::check_seed;
-use password::inputs::put_lower;
+use password::phrase_and_seed::check_seed;
+use password::phrase_and_seed::put_lower;
 use refusal::Checked;
 use refusal::Refusal;
 

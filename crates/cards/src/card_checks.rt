@@ -3,7 +3,7 @@ ghost use mathlib.Core.Path.{_≡_};
 ghost use Rattle.cards.specs.CardChecks.{linesCounted, countAsked};
 use challenge::reading::Challenge;
 use challenge::reading::read;
-use password::inputs::check_phrase;
+use password::phrase_and_seed::check_phrase;
 use refusal::Checked;
 use refusal::Refusal;
 

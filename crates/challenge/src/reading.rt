@@ -6,7 +6,7 @@ ghost use Rattle.text.specs.Tests.{same as sameText};
 ghost use Rattle.text.specs.Counts.{countedOf};
 ghost use Rattle.challenge.specs.Challenges as spec;
 ghost use Rattle.challenge.specs.Inside as inside;
-use password::inputs::check_seed;
+use password::phrase_and_seed::check_seed;
 use refusal::Checked;
 use refusal::Refusal;
 use text::counts::Counted;

@@ -1,6 +1,6 @@
 -- The letter's third demand, a theorem for each sentence.
-use Prim.Native.Nat.{ℕ, _-_, _≤_, _<_}
-use mathlib.Core.Path.{_≡_, sym, ap, _∙_}
+use Prim.Native.Nat.{ℕ, _≤_, _<_}
+use mathlib.Core.Path.{_≡_}
 use mathlib.Core.Bool.{true}
 use mathlib.Core.List.{List}
 use lib.ListN.{length}
@@ -8,16 +8,14 @@ use Rattle.refusal.specs.declared.Checked.{Checked}
 use Rattle.text.specs.Tests.{every}
 use Rattle.password.specs.PhraseAndSeed.{phraseChecked}
 use Rattle.password.specs.Password.{Algorithm, password}
-use Rattle.accounts.specs.Rooms.{Room}
-use Rattle.table.specs.Table.{State, accountOf, turnId}
-use Rattle.challenge.specs.Challenges.{challengeText}
+use Rattle.table.specs.Table.{State, accountOf}
 use Rattle.table.specs.Steps.{join, challengeFor}
 use Rattle.reached.specs.Calls.{Call, after, run}
 use Rattle.reached.specs.InTurn.{Reached, ticks, quiet, quietMeanwhile, HasTurn, TurnBegins}
 use Rattle.reached.specs.Day.{Day}
 use Rattle.grounds.specs.TurnComes.{wait-ends, all-meanwhile, joined-waits, reached-run, reached-after}
 use Rattle.grounds.specs.Keeps.{made}
-use Rattle.grounds.specs.Owned.{call-keeps, turn-keeps}
+use Rattle.grounds.specs.Owned.{call-keeps, turn-keeps, challenge-kept}
 use Rattle.grounds.specs.Answering.{day}
 
 -- "From a fresh table, after any calls, a port that joins successfully has its turn begin by the 180th tick, if its account
@@ -65,9 +63,4 @@ turn-is-reached s r p i calls = reached-run (join p i s .state) calls (reached-a
 pub challenge-stays : (s : State) → Reached s → (p i : ℕ) → HasTurn p i s
     → (during : List Call) → every (quiet p i) during ≡ true → HasTurn p i (run during s)
     → challengeFor (run during s) ≡ challengeFor s
-challenge-stays s r p i t during q u =
-    let same : accountOf (turnId (run during s)) (run during s) ≡ accountOf (turnId s) s =
-    ap (λ (j : ℕ). accountOf j (run during s)) (u .account)
-    ∙ turn-stays-own s r p i t during q u
-    ∙ ap (λ (j : ℕ). accountOf j s) (sym (t .account)) in
-    ap (λ (room : Room). challengeText (room .seed) (room .count - 1)) same
+challenge-stays s r p i t during q u = challenge-kept p i during s (made s r) t q u

@@ -8,9 +8,9 @@ use Rattle.block.proofs.arithmetic.rotated.Reads as rotated
 use Rattle.md5.proofs.compress.compress_eight.Reads as compress-eight
 use Rattle.md5.proofs.compress.registers.Reads as registers
 use Rattle.md5.proofs.digest.digest.Reads as digest
-use Rattle.password.proofs.inputs.check_phrase.Reads as check-phrase
-use Rattle.password.proofs.inputs.check_seed.Reads as check-seed
-use Rattle.password.proofs.inputs.put_lower.Reads as put-lower
+use Rattle.password.proofs.phrase_and_seed.check_phrase.Reads as check-phrase
+use Rattle.password.proofs.phrase_and_seed.check_seed.Reads as check-seed
+use Rattle.password.proofs.phrase_and_seed.put_lower.Reads as put-lower
 use Rattle.generator.proofs.chain.step.Reads as step
 use Rattle.generator.proofs.generate.Reads as generate
 use Rattle.password.proofs.eight_bytes.number_of.Reads as number-of

@@ -4,9 +4,9 @@ use mathlib.Core.Path.{_≡_, sym, _∙_}
 use denote.Ref.{now}
 use Rattle.line.proofs.fresh.Reads as line-fresh
 use Rattle.line.proofs.join.Reads as line-join
-use Rattle.line.proofs.departing.leave.Reads as line-leave
-use Rattle.line.proofs.departing.remove.Reads as line-remove
-use Rattle.line.proofs.departing.tick.Reads as line-tick
+use Rattle.line.proofs.leave.Reads as line-leave
+use Rattle.line.proofs.remove.Reads as line-remove
+use Rattle.line.proofs.tick.Reads as line-tick
 use Rattle.line.proofs.has.Reads as has
 use Rattle.line.proofs.front_of.Reads as front-of
 use Rattle.port.proofs.after_wrong.Reads as after-wrong

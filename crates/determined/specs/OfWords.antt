@@ -1,4 +1,4 @@
--- The promises of `wordlist`, `hex`, `sixwords` and `reply_reader` determine their results.
+-- The promises of `wordlist`, `hex`, `sixwords` and `reply` determine their results.
 use mathlib.Core.Path.{sym, _∙_}
 use denote.Ref.{now}
 use Rattle.wordlist.proofs.word_at.Reads as word-at

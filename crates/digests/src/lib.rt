@@ -1,4 +1,4 @@
-// What RFC 1321 defines: padding, rounds, MD5. No code: `block`, `rounds`, `md5` and `digest` have the functions.
+// What RFC 1321 defines: padding, rounds, MD5. No code: `block` and `md5` have the functions.
 
 // The four registers A, B, C, D.
 pub struct State {

@@ -10,8 +10,8 @@ ghost use Rattle.generator.specs.Inside.{chained};
 use crate::chain::step;
 use crate::fold::folded;
 use md5::compress::registers;
-use password::inputs::check_phrase;
-use password::inputs::check_seed;
+use password::phrase_and_seed::check_phrase;
+use password::phrase_and_seed::check_seed;
 use refusal::Checked;
 use refusal::Reading;
 use refusal::Refusal;
@@ -34,7 +34,7 @@ fn put_message(buf: &mut [u8], phrase: &[u8], seed: &[u8]) -> usize
     requires { ⌜ length (now seed) + length (now phrase) ≤ length (now buf) ⌝ }
     ensures { λ r. ⌜ Put (map lowerOf (now (seed .entry)) ++ now (phrase .entry)) (now (buf .entry)) (now (buf .exit)) r ⌝ }
 {
-    let a = password::inputs::put_lower(buf, seed);
+    let a = password::phrase_and_seed::put_lower(buf, seed);
     a + text::put::copy(&mut buf[a..], phrase)
 }
 

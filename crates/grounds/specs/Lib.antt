@@ -13,3 +13,4 @@ pub mod Answering
 pub mod Refusing
 pub mod Unchanged
 pub mod Given
+pub mod LongestWait

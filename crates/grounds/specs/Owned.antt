@@ -11,9 +11,11 @@ use Rattle.text.specs.Tests.{every, either, both}
 use Rattle.line.specs.declared.Place.{Place}
 use Rattle.line.specs.Line as Line
 use Rattle.line.specs.Line.{Waiting, ofPort, ofAccount, some, standsIn, first, others, without, tickedFront}
-use Rattle.accounts.specs.Rooms.{free}
+use Rattle.accounts.specs.Rooms.{Room, free}
 use Rattle.table.specs.Table.{State, isThere, accountOf, isFront, idOf, hasTurn, turnId}
 use Rattle.table.specs.Steps as Steps
+use Rattle.table.specs.Steps.{challengeFor}
+use Rattle.challenge.specs.Challenges.{challengeText}
 use Rattle.reached.specs.Calls.{Call, after, run}
 use Rattle.reached.specs.InTurn.{quiet, HasTurn}
 use Rattle.refusal.specs.Each.{Each}
@@ -161,3 +163,13 @@ turn-keeps p i (c ∷ cs) s m t q u =
         let out = out-run p i cs (after c s) (halves .1) e in
         let stands = turn-there p i (run cs (after c s)) (made-run cs (after c s) made′) u .2 in
         absurd (true≢false (sym stands ∙ out))
+
+-- So the challenge is as it was, too.
+pub challenge-kept : (p i : ℕ) (calls : List Call) (s : State) → Made s → HasTurn p i s → every (quiet p i) calls ≡ true → HasTurn p i (run calls s)
+    → challengeFor (run calls s) ≡ challengeFor s
+challenge-kept p i calls s m t q u =
+    let same : accountOf (turnId (run calls s)) (run calls s) ≡ accountOf (turnId s) s =
+    ap (λ (j : ℕ). accountOf j (run calls s)) (u .account)
+    ∙ turn-keeps p i calls s m t q u
+    ∙ ap (λ (j : ℕ). accountOf j s) (sym (t .account)) in
+    ap (λ (room : Room). challengeText (room .seed) (room .count - 1)) same

@@ -1,7 +1,7 @@
 -- Helper definitions of private functions: nothing outside this crate rests on them.
 use mathlib.Core.Bool.{Bool}
 use Rattle.line.specs.declared.Place.{Place}
-use Rattle.line.specs.declared.departing.Who.{Who}
+use Rattle.line.specs.declared.Who.{Who}
 use Rattle.line.specs.Line.{Waiting, ofPort, ofAccount, others}
 
 -- The place is one of those that leave.

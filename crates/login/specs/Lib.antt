@@ -1,3 +1,3 @@
--- What a table with no account answers.
+-- What a table with no account answers, and helper definitions of private functions.
 pub mod Empty
 pub mod Inside

@@ -70,7 +70,7 @@ pub fn remove(table: Table, id: u16) -> Settled
     }
     let mut next = put(table, place, FREE);
     let waiting = table.line;
-    let line = line::departing::remove(waiting, id);
+    let line = line::remove(waiting, id);
     next.line = line;
     Settled {
         table: next,

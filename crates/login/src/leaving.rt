@@ -28,7 +28,7 @@ pub fn leave(mut table: Table, port: u8) -> Settled
         return Settled { table, answer };
     }
     let waiting = table.line;
-    let line = line::departing::leave(waiting, port);
+    let line = line::leave(waiting, port);
     table.line = line;
     Settled { table, answer }
 }

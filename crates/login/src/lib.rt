@@ -1,5 +1,5 @@
 // The login table's eight calls, by the names of document 01, 'Table, ports and turns'. A table goes in by value and comes
-// back beside the answer.
+// back beside the answer. The modules are public so that `determined` can speak of the calls' promises.
 
 // Enrol and Remove.
 pub mod enrolling;

@@ -27,7 +27,7 @@ pub fn tick(mut table: Table) -> Table
     let ports = ticked(own);
     table.ports = ports;
     let waiting = table.line;
-    let line = line::departing::tick(waiting);
+    let line = line::tick(waiting);
     table.line = line;
     table
 }

@@ -1,16 +1,13 @@
 -- The order of a round leads to words of the block.
 use Prim.Native.Nat.{ℕ, zero, suc, _<_}
-use mathlib.Core.Path.{_≡_, refl}
-use mathlib.Core.Bool.{Bool, true, false, _&&_}
+use mathlib.Core.Path.{_≡_}
+use mathlib.Core.Bool.{true}
 use mathlib.Core.List.{List, [], _∷_}
 use borrow.Author.Tests.{ltb-true}
 use lib.Dec.{ltb}
 use lib.ListN.{getD}
+use Rattle.text.specs.Tests.{both}
 use Rattle.md5.specs.Inside.{below}
-
-both : (a b : Bool) → (a && b) ≡ true → (a ≡ true) × (b ≡ true)
-both true b e = (refl, e)
-both false b e = let z : _≡_ {A = Bool} false true = e in (z, cc)
 
 pub below-at : (n : ℕ) (l : List ℕ) → 0 < n → below n l ≡ true → (i : ℕ) → getD l i 0 < n
 below-at n [] pos h i = pos

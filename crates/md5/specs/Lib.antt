@@ -1,4 +1,4 @@
--- Helper definitions and laws; the definitions that the promises of `md5` cite stand in `rfc1321`.
+-- What the digest function answers, helper definitions and laws; MD5 itself is defined in `digests`.
 pub mod Inside
 pub mod Laws
 pub mod SumLaws

@@ -136,8 +136,8 @@ accounts-free (x ∷ l) = by (eqb (x .id) 0) (accounts-free l)
     by false e = omega arith
 
 -- No two rooms have one id, unless they are free.
-abbrev pub Once : List Room → Type 0
-Once l = (id : ℕ) → (id ≡ 0 → ⊥) → times id l ≤ 1
+abbrev pub OneEach : List Room → Type 0
+OneEach l = (id : ℕ) → (id ≡ 0 → ⊥) → times id l ≤ 1
 
 -- The first room is free, or it is an account's: what is there behind it.
 module _ (x : Room) (l : List Room) where
@@ -186,14 +186,14 @@ others-times id [] h = refl
 others-times id (x ∷ l) h = rw (ne-eqb (x .id) id (h .0)) (others-times id l (h .1))
 
 -- The two ways to say that no two accounts have one id.
-pub once-apart : (l : List Room) → Once l → Apart l
+pub once-apart : (l : List Room) → OneEach l → Apart l
 once-apart [] o = tt
 once-apart (x ∷ l) o = (
   λ g. none-times (x .id) l (omega (arith, o (x .id) g, times-own x l)),
   once-apart l (λ id h. omega (arith, times-tail x l id, o id h)),
 )
 
-pub apart-once : (l : List Room) → Apart l → Once l
+pub apart-once : (l : List Room) → Apart l → OneEach l
 unfolding times
 apart-once [] a id g = omega arith
 apart-once (x ∷ l) a id g = by (eqb (x .id) id) refl (apart-once l (a .1) id g)
@@ -227,7 +227,7 @@ none-accounts (x ∷ l) h = by (ℕ-discrete (x .id) 0) (none-accounts l)
         absurd (omega arith)
 
 -- The rooms without the account that stands first in another list.
-module _ (x : Room) (l m : List Room) (g : x .id ≡ 0 → ⊥) (once : Once (x ∷ l)) (once′ : Once m) (same : SameAccounts (x ∷ l) m) where
+module _ (x : Room) (l m : List Room) (g : x .id ≡ 0 → ⊥) (once : OneEach (x ∷ l)) (once′ : OneEach m) (same : SameAccounts (x ∷ l) m) where
   place : placeOf (x .id) m < length m
   place = found-placed (x .id) m x (sym (same (x .id) g) ∙ by-own x l)
 
@@ -240,7 +240,7 @@ module _ (x : Room) (l m : List Room) (g : x .id ≡ 0 → ⊥) (once : Once (x 
   free-not : (j : ℕ) → (j ≡ 0 → ⊥) → is 0 j ≡ 0
   free-not j h = ap (λ (b : Bool). cond b 1 0) (ne-eqb 0 j (λ e. h (sym e)))
 
-  rest-once : Once rest
+  rest-once : OneEach rest
   rest-once j h = omega (arith, times-set free j m (placeOf (x .id) m) place, free-not j h, once′ j h)
 
   rest-none : times (x .id) rest ≡ 0
@@ -265,12 +265,12 @@ module _ (x : Room) (l m : List Room) (g : x .id ≡ 0 → ⊥) (once : Once (x 
       omega (arith, accounts-set free m (placeOf (x .id) m) place)
 
 -- Tables with the same accounts have as many.
-pub same-count : (l m : List Room) → Once l → Once m → SameAccounts l m → accountsIn l ≡ accountsIn m
+pub same-count : (l m : List Room) → OneEach l → OneEach m → SameAccounts l m → accountsIn l ≡ accountsIn m
 unfolding accountsIn times
 same-count [] m o p q = sym (none-accounts m (λ id h. sym (q id h) ∙ found-none id [] refl))
 same-count (x ∷ l) m o p q = by (ℕ-discrete (x .id) 0) (same-count l)
   where
-    by : Dec (x .id ≡ 0) → ((n : List Room) → Once l → Once n → SameAccounts l n → accountsIn l ≡ accountsIn n) → accountsIn (x ∷ l) ≡ accountsIn m
+    by : Dec (x .id ≡ 0) → ((n : List Room) → OneEach l → OneEach n → SameAccounts l n → accountsIn l ≡ accountsIn n) → accountsIn (x ∷ l) ≡ accountsIn m
     by (yes e) f =
         head-free x l e
         ∙ f m (λ id h. omega (arith, times-tail x l id, o id h)) p (λ id h. sym (by-other x l id (λ d. h (sym d ∙ e))) ∙ q id h)

@@ -13,11 +13,11 @@ use Rattle.refusal.specs.Each.{Each}
 -- ---- one test
 
 -- a test that holds is not refused, and one that fails is
-pub test-good : {t : Bool} (why : Refusal) → t ≡ true → must t why ≡ Checked.Good
-test-good why e = ap (λ (b : Bool). must b why) e
+pub must-true : {t : Bool} (why : Refusal) → t ≡ true → must t why ≡ Checked.Good
+must-true why e = ap (λ (b : Bool). must b why) e
 
-pub test-refused : {t : Bool} {why : Refusal} → t ≡ false → must t why ≡ Checked.Refused why
-test-refused {why = why} e = ap (λ (b : Bool). must b why) e
+pub must-false : {t : Bool} {why : Refusal} → t ≡ false → must t why ≡ Checked.Refused why
+must-false {why = why} e = ap (λ (b : Bool). must b why) e
 
 -- a test that is not refused holds
 pub must-good : (t : Bool) (why : Refusal) → must t why ≡ Checked.Good → t ≡ true
@@ -41,28 +41,30 @@ module _ {A : Type 0} (f : Refusal → A) where
   not-refused a other Checked.Good rest e = (refl, e)
   not-refused a other (Checked.Refused why) rest e = absurd (other why e)
 
+-- a check and those behind it found nothing wrong: neither did
 pub both-good : (check rest : Checked) → unless Checked.Refused check rest ≡ Checked.Good → (check ≡ Checked.Good) × (rest ≡ Checked.Good)
 both-good = not-refused Checked.Refused Checked.Good (λ why e. let z : _≡_ {A = ℕ} 0 1 = cc in omega arith)
 
 -- ---- checks in order
 
-abbrev pub Good : Checked → Type 0
-Good check = check ≡ Checked.Good
+-- the check found nothing wrong
+abbrev pub IsGood : Checked → Type 0
+IsGood check = check ≡ Checked.Good
 
 -- the first check that fails: those before it are good, and its refusal is the answer
-pub first-fails : (checks : List Checked) (k : ℕ) (why : Refusal) → Each Good (take k checks) → getD checks k Checked.Good ≡ Checked.Refused why
+pub first-fails : (checks : List Checked) (k : ℕ) (why : Refusal) → Each IsGood (take k checks) → getD checks k Checked.Good ≡ Checked.Refused why
     → Checked.Refused why ≡ inOrder checks
 first-fails [] k why h e = sym e
 first-fails (check ∷ checks) zero why h e = first-refused Checked.Refused check why (inOrder checks) e
 first-fails (check ∷ checks) (suc k) why h e = first-fails checks k why (h .1) e ∙ first-good Checked.Refused check (inOrder checks) (h .0)
 
 -- none fails
-pub none-fails : (checks : List Checked) → Each Good checks → Checked.Good ≡ inOrder checks
+pub none-fails : (checks : List Checked) → Each IsGood checks → Checked.Good ≡ inOrder checks
 none-fails [] h = refl
 none-fails (check ∷ checks) h = none-fails checks (h .1) ∙ first-good Checked.Refused check (inOrder checks) (h .0)
 
 -- where nothing is wrong, each check is good
-pub each-good : (checks : List Checked) → inOrder checks ≡ Checked.Good → Each Good checks
+pub each-good : (checks : List Checked) → inOrder checks ≡ Checked.Good → Each IsGood checks
 each-good [] e = tt
 each-good (check ∷ checks) e =
     let parts = both-good check (inOrder checks) e in

@@ -119,7 +119,8 @@ run-until test (a ∷ s) b rest e f =
     let halves = both (test a) (every test s) e in
     ap (λ (t : Bool). cond t (suc (runOf test (s ++ b ∷ rest))) 0) (halves .0) ∙ ap suc (run-until test s b rest (halves .1) f)
 
-piece-cons : (t : List ℕ) (ts : List (List ℕ)) → 0 < length t → piece t ++ ts ≡ t ∷ ts
+-- a piece that is not empty, before others
+pub piece-cons : (t : List ℕ) (ts : List (List ℕ)) → 0 < length t → piece t ++ ts ≡ t ∷ ts
 piece-cons [] ts h = absurd (omega arith)
 piece-cons (b ∷ t) ts h = refl
 

@@ -32,7 +32,7 @@ fn accepted(turn: TurnPart, port: u8, next: Account) -> Outcome
 {
     let own = after_right(turn.own);
     let waiting = turn.line;
-    let line = line::departing::leave(waiting, port);
+    let line = line::leave(waiting, port);
     Outcome {
         turn: TurnPart {
             place: turn.place,
@@ -50,7 +50,7 @@ fn rejected(turn: TurnPart, port: u8) -> Outcome
     let account = turn.account;
     let own = after_wrong(turn.own);
     let waiting = turn.line;
-    let line = line::departing::leave(waiting, port);
+    let line = line::leave(waiting, port);
     Outcome {
         turn: TurnPart {
             place: turn.place,

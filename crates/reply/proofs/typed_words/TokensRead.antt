@@ -13,7 +13,7 @@ use borrow.Author.Tests.{eq-eqb, ne-eqb, leb-true, leb-false}
 use Rattle.text.specs.Kinds.{isWhite, isSolid, isLetter}
 use Rattle.text.specs.Tests.{every, every-append, cases, both, second-fails}
 use Rattle.text.specs.Scan.{runOf, tokens, piece}
-use Rattle.text.specs.ScanLaws.{run-within, tokens-white, tokens-run, tokens-none, tokens-some, solid-after}
+use Rattle.text.specs.ScanLaws.{run-within, tokens-white, tokens-run, tokens-none, tokens-some, solid-after, piece-cons}
 use Rattle.reply.specs.declared.typed_words.Word.{Word}
 use Rattle.reply.specs.declared.typed_words.Six.{Six}
 use Rattle.reply.specs.Reply.{isWord, sixWords}
@@ -97,10 +97,6 @@ at-head k ts us t e = (
       (λ (l : List (List ℕ)). getD l 0 []) e,
   sym (drop-drop 1 k ts) ∙ ap (drop 1) e,
 )
-
-piece-cons : (t : List ℕ) (ts : List (List ℕ)) → 0 < length t → piece t ++ ts ≡ t ∷ ts
-piece-cons [] ts h = absurd (omega arith)
-piece-cons (b ∷ t) ts h = refl
 
 word-some : (t : List ℕ) → isWord t ≡ true → 0 < length t
 unfolding isWord

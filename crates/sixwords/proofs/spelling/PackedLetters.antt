@@ -1,12 +1,10 @@
 -- The letters of a packed word, one by one.
-use Prim.Native.Nat.{ℕ, suc, _+_, _/_, _%_, _^_, _≤_, _<_}
+use Prim.Native.Nat.{ℕ, _/_, _%_, _^_, _≤_, _<_}
 use native.Mathlib.Omega.{arith}
-use mathlib.Core.Path.{_≡_, refl, sym, _∙_, ap, ap₂}
-use mathlib.Core.List.{List, [], _∷_, _++_, map}
-use native.Mathlib.Numerals.{add-one}
+use mathlib.Core.Path.{_≡_, refl, ap}
+use mathlib.Core.List.{List, [], _∷_, map}
 use lib.Dec.{eqb, ltb}
-use lib.ListN.{length, getD, drop, set, length-append}
-use lib.Seq.{drop-cons, set-at, append-snoc}
+use lib.ListN.{length, getD, set}
 use borrow.Author.Tests.{lt-ltb, le-ltb, eq-eqb, ne-eqb, eqb-true, eqb-false}
 use Rattle.text.specs.Tests.{either, cases}
 use Rattle.text.specs.Put.{Put}
@@ -75,17 +73,6 @@ put-four t (a ∷ []) w x y z e h = absurd (omega arith)
 put-four t (a ∷ c ∷ []) w x y z e h = absurd (omega arith)
 put-four t (a ∷ c ∷ d ∷ []) w x y z e h = absurd (omega arith)
 put-four t (a ∷ c ∷ d ∷ f ∷ b) w x y z e h = put-to t (w ∷ x ∷ y ∷ z ∷ []) (a ∷ c ∷ d ∷ f ∷ b) (w ∷ x ∷ y ∷ z ∷ b) 4 e (refl, refl)
-
--- a byte after a text
-pub put-byte : (t b b₁ : List ℕ) (n x : ℕ) → length t < length b → Put t b b₁ n → Put (t ++ x ∷ []) b (set b₁ n x) (n + 1)
-put-byte t b b₁ n x h p = (
-  simp length-append (omega (arith, p .0)),
-  ap₂ (λ (l : List ℕ) (k : ℕ). set l k x) (p .1) (p .0)
-      ∙ ap (λ (l : List ℕ). set (t ++ l) (length t) x) (drop-cons b (length t) 0 h)
-      ∙ set-at t (getD b (length t) 0) (drop (suc (length t)) b) x (length t) refl
-      ∙ sym (append-snoc t x (drop (suc (length t)) b))
-      ∙ ap (λ (k : ℕ). t ++ x ∷ [] ++ drop k b) (sym (length-append t (x ∷ []) ∙ add-one (length t))),
-)
 
 -- the packed words at six places
 pub words-at : (ps : List ℕ) → Six ps → (a b c d e f : ℕ) → a ≡ packedAt (getD ps 0 0) → b ≡ packedAt (getD ps 1 0) → c ≡ packedAt (getD ps 2 0) →

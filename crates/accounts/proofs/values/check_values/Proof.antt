@@ -11,7 +11,7 @@ use lib.ListN.{length}
 use lib.Seq.{length-take-le}
 use Rattle.text.specs.Tests.{same}
 use Rattle.refusal.specs.declared.Checked.{Checked}
-use Rattle.refusal.specs.Laws.{test-good, test-refused, first-fails, none-fails}
+use Rattle.refusal.specs.Laws.{must-true, must-false, first-fails, none-fails}
 use Rattle.text.specs.Kinds.{lowerOf}
 use Rattle.password.specs.PhraseAndSeed.{seedChecked}
 use Rattle.line.specs.Laws.{all-taken}
@@ -52,19 +52,19 @@ returns : tie.Need-returns
 unfolding valuesChecked
 returns c =
     let start = c .before .before in
-    first-fails (checks start) 0 _ tt (test-refused (ap (λ (b : Bool). b && leb (start .args .count) 9999) (lt-leb 2 _ (c .if1 .taken))))
+    first-fails (checks start) 0 _ tt (must-false (ap (λ (b : Bool). b && leb (start .args .count) 9999) (lt-leb 2 _ (c .if1 .taken))))
 
 returns-2 : tie.Need-returns-2
 unfolding valuesChecked
 returns-2 c =
     first-fails (checks (c .before .before .before)) 0 _ tt
-    (test-refused (ap₂ (λ (a b : Bool). a && b) (le-leb 2 _ (c .before .if1 .left)) (lt-leb _ 9999 (c .if2 .taken))))
+    (must-false (ap₂ (λ (a b : Bool). a && b) (le-leb 2 _ (c .before .if1 .left)) (lt-leb _ 9999 (c .if2 .taken))))
 
 returns-3 : tie.Need-returns-3
 unfolding valuesChecked
 returns-3 c =
     let counted = c .before .before .before .before in
-    first-fails (checks (counted .before .before .before)) 1 _ (test-good _ (count-good counted), tt)
+    first-fails (checks (counted .before .before .before)) 1 _ (must-true _ (count-good counted), tt)
     (sym (c .before .before .before .check-seed .ensures) ∙ c .before .why .given .1)
 
 returns-4 : tie.Need-returns-4
@@ -72,8 +72,8 @@ unfolding valuesChecked
 returns-4 c =
     let seeded = c .before .before .before .before .before in
     let counted = seeded .before .before .before in
-    first-fails (checks (counted .before .before .before)) 2 _ (test-good _ (count-good counted), (seed-good seeded, tt))
-    (test-refused (ap not (compared (c .before) ∙ c .if3 .taken)))
+    first-fails (checks (counted .before .before .before)) 2 _ (must-true _ (count-good counted), (seed-good seeded, tt))
+    (must-false (ap not (compared (c .before) ∙ c .if3 .taken)))
 
 returns-5 : tie.Need-returns-5
 unfolding valuesChecked
@@ -81,7 +81,7 @@ returns-5 c =
     let seeded = c .before .before .before .before .before in
     let counted = seeded .before .before .before in
     none-fails (checks (counted .before .before .before))
-    (test-good _ (count-good counted), (seed-good seeded, (test-good _ (ap not (compared (c .before) ∙ c .if3 .left)), tt)))
+    (must-true _ (count-good counted), (seed-good seeded, (must-true _ (ap not (compared (c .before) ∙ c .if3 .left)), tt)))
 
 pub check-values-spec : {M : Type 1} → statement M
 check-values-spec =

@@ -3,7 +3,7 @@ use mathlib.Core.Path.{ap}
 use mathlib.Core.Bool.{not}
 use borrow.Author.Tests.{eq-eqb, ne-eqb, le-ltb, lt-ltb}
 use native.Mathlib.Omega.{arith}
-use Rattle.refusal.specs.Laws.{test-good, test-refused, first-fails, none-fails}
+use Rattle.refusal.specs.Laws.{must-true, must-false, first-fails, none-fails}
 use Rattle.accounts.specs.Rooms.{roomOf}
 use Rattle.turns.specs.TurnChecks.{accountChecks}
 use Rattle.turns.proofs.turn_checks.check_account.Statement.{statement}
@@ -13,12 +13,12 @@ pub check-account-spec : {M : Type 1} → statement M
 check-account-spec =
     tie.close
     (tie.spec
-    (λ c. first-fails (accountChecks (roomOf (c .before .before .args .account))) 0 _ tt (test-refused (ap not (eq-eqb _ _ (c .if1 .taken)))))
+    (λ c. first-fails (accountChecks (roomOf (c .before .before .args .account))) 0 _ tt (must-false (ap not (eq-eqb _ _ (c .if1 .taken)))))
     (λ c.
     let a = c .before .before .before .before .args .account in
-    first-fails (accountChecks (roomOf a)) 1 _ (test-good _ (ap not (ne-eqb _ _ (c .before .before .if1 .left))), tt)
-    (test-refused (le-ltb 1 (a .count) (omega (arith, c .if2 .taken)))))
+    first-fails (accountChecks (roomOf a)) 1 _ (must-true _ (ap not (ne-eqb _ _ (c .before .before .if1 .left))), tt)
+    (must-false (le-ltb 1 (a .count) (omega (arith, c .if2 .taken)))))
     (λ c.
     let a = c .before .before .before .before .args .account in
     none-fails (accountChecks (roomOf a))
-    (test-good _ (ap not (ne-eqb _ _ (c .before .before .if1 .left))), (test-good _ (lt-ltb 1 (a .count) (omega (arith, c .if2 .left))), tt))))
+    (must-true _ (ap not (ne-eqb _ _ (c .before .before .if1 .left))), (must-true _ (lt-ltb 1 (a .count) (omega (arith, c .if2 .left))), tt))))

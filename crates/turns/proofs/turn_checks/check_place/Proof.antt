@@ -4,7 +4,7 @@ use mathlib.Core.List.{List}
 use borrow.Author.Needs.{needs}
 use borrow.Author.Tests.{le-leb, lt-leb, not-true, not-false}
 use Rattle.refusal.specs.declared.Checked.{Checked}
-use Rattle.refusal.specs.Laws.{test-good, test-refused, first-fails, none-fails}
+use Rattle.refusal.specs.Laws.{must-true, must-false, first-fails, none-fails}
 use Rattle.line.specs.Line.{waiting}
 use Rattle.turns.specs.TurnChecks.{placeChecks}
 use Rattle.turns.proofs.turn_checks.check_place.Statement.{statement}
@@ -14,31 +14,31 @@ abbrev checks : tie.Start → List Checked
 checks c = placeChecks (c .args .port) (waiting (c .args .line))
 
 returns : tie.Need-returns
-returns c = first-fails (checks (c .before)) 0 _ tt (test-refused (lt-leb _ 3 (c .if1 .taken)))
+returns c = first-fails (checks (c .before)) 0 _ tt (must-false (lt-leb _ 3 (c .if1 .taken)))
 
 returns-2 : tie.Need-returns-2
 returns-2 c =
     let known = c .before .before in
-    first-fails (checks (known .before)) 1 _ (test-good _ (le-leb _ 3 (known .if1 .left)), tt)
-    (test-refused (sym (c .before .has .ensures) ∙ not-true _ (c .if2 .taken)))
+    first-fails (checks (known .before)) 1 _ (must-true _ (le-leb _ 3 (known .if1 .left)), tt)
+    (must-false (sym (c .before .has .ensures) ∙ not-true _ (c .if2 .taken)))
 
 returns-3 : tie.Need-returns-3
 returns-3 c =
     let inside = c .before .before in
     let known = inside .before .before in
     first-fails (checks (known .before)) 2 _
-    (test-good _ (le-leb _ 3 (known .if1 .left)), (test-good _ (sym (inside .before .has .ensures) ∙ not-false _ (inside .if2 .left)), tt))
-    (test-refused (sym (c .before .has-turn .ensures) ∙ not-true _ (c .if3 .taken)))
+    (must-true _ (le-leb _ 3 (known .if1 .left)), (must-true _ (sym (inside .before .has .ensures) ∙ not-false _ (inside .if2 .left)), tt))
+    (must-false (sym (c .before .has-turn .ensures) ∙ not-true _ (c .if3 .taken)))
 
 returns-4 : tie.Need-returns-4
 returns-4 c =
     let inside = c .before .before in
     let known = inside .before .before in
     none-fails (checks (known .before)) (
-      test-good _ (le-leb _ 3 (known .if1 .left)),
+      must-true _ (le-leb _ 3 (known .if1 .left)),
       (
-        test-good _ (sym (inside .before .has .ensures) ∙ not-false _ (inside .if2 .left)),
-        (test-good _ (sym (c .before .has-turn .ensures) ∙ not-false _ (c .if3 .left)), tt),
+        must-true _ (sym (inside .before .has .ensures) ∙ not-false _ (inside .if2 .left)),
+        (must-true _ (sym (c .before .has-turn .ensures) ∙ not-false _ (c .if3 .left)), tt),
       ),
     )
 

@@ -4,8 +4,8 @@ use borrow.Author.Needs.{needs}
 use Rattle.line.specs.declared.Front.{Front}
 use Rattle.line.specs.Line.{waiting, frontOf}
 use Rattle.line.specs.Laws.{ticked-none, ticked-last, ticked-on}
-use Rattle.line.proofs.departing.tick.Statement.{statement}
-use Rattle.line.proofs.departing.tick.Tie as tie
+use Rattle.line.proofs.tick.Statement.{statement}
+use Rattle.line.proofs.tick.Tie as tie
 
 -- The place that was read is the front.
 first-is : (c : tie.After-struct-known) → frontOf (waiting (c .before .before .before .before .before .args .line))

@@ -8,8 +8,8 @@ use Rattle.text.specs.declared.kinds.Kind.{Kind}
 use Rattle.text.specs.Kinds.{ofKind}
 use Rattle.text.specs.ScanLaws.{run-whole}
 use Rattle.password.specs.PhraseAndSeed.{plain}
-use Rattle.password.proofs.inputs.is_plain.Statement.{statement}
-use Rattle.password.proofs.inputs.is_plain.Tie as tie
+use Rattle.password.proofs.phrase_and_seed.is_plain.Statement.{statement}
+use Rattle.password.proofs.phrase_and_seed.is_plain.Tie as tie
 
 returns : tie.Need-returns
 unfolding plain

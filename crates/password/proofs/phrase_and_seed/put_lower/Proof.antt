@@ -8,8 +8,8 @@ use lib.ListN.{length, getD, take, drop, set, length-set, length-map, List·getD
 use lib.Seq.{take-length}
 use Rattle.text.specs.Kinds.{lowerOf}
 use Rattle.text.specs.PutLaws.{copied}
-use Rattle.password.proofs.inputs.put_lower.Statement.{statement}
-use Rattle.password.proofs.inputs.put_lower.Tie as tie
+use Rattle.password.proofs.phrase_and_seed.put_lower.Statement.{statement}
+use Rattle.password.proofs.phrase_and_seed.put_lower.Tie as tie
 
 abbrev Inv-loop : tie.InvT-loop
 Inv-loop buf₀ seed i₀ buf i =

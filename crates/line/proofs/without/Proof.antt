@@ -9,8 +9,8 @@ use Rattle.line.specs.declared.Front.{Front}
 use Rattle.line.specs.Line.{Waiting, waiting, frontOf, others, start, without}
 use Rattle.line.specs.Inside.{isWho}
 use Rattle.line.specs.Laws.{line-of, without-none, without-front, without-behind, start-none, start-some}
-use Rattle.line.proofs.departing.without.Statement.{statement}
-use Rattle.line.proofs.departing.without.Tie as tie
+use Rattle.line.proofs.without.Statement.{statement}
+use Rattle.line.proofs.without.Tie as tie
 
 -- The place that was read is the front.
 first-is : (c : tie.After-is-who) → frontOf (waiting (c .before .before .before .before .before .before .args .line))

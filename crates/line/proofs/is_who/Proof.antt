@@ -1,10 +1,10 @@
 -- `is_who` meets its promise: in each arm the test that is returned.
 use mathlib.Core.Path.{sym, ap}
 use borrow.Author.Needs.{needs}
-use Rattle.line.specs.declared.departing.Who.{Who}
+use Rattle.line.specs.declared.Who.{Who}
 use Rattle.line.specs.Inside.{isWho}
-use Rattle.line.proofs.departing.is_who.Statement.{statement}
-use Rattle.line.proofs.departing.is_who.Tie as tie
+use Rattle.line.proofs.is_who.Statement.{statement}
+use Rattle.line.proofs.is_who.Tie as tie
 
 pub is-who-spec : {M : Type 1} → statement M
 is-who-spec =

@@ -1,7 +1,7 @@
 -- `check_phrase` meets its promise: each return computes with the tests that led to it.
 use borrow.Author.Tests.{lt-ltb, le-ltb}
-use Rattle.password.proofs.inputs.check_phrase.Statement.{statement}
-use Rattle.password.proofs.inputs.check_phrase.Tie as tie
+use Rattle.password.proofs.phrase_and_seed.check_phrase.Statement.{statement}
+use Rattle.password.proofs.phrase_and_seed.check_phrase.Tie as tie
 
 pub check-phrase-spec : {M : Type 1} → statement M
 check-phrase-spec =

@@ -9,9 +9,9 @@ use Rattle.line.specs.declared.Place.{Place}
 use Rattle.line.specs.Line.{others}
 use Rattle.line.specs.Inside.{isWho}
 use Rattle.line.specs.Laws.{unmapped, all-taken, line-of}
-use Rattle.line.proofs.departing.Staying.{others-gone, others-stays}
-use Rattle.line.proofs.departing.keep.Statement.{statement}
-use Rattle.line.proofs.departing.keep.Tie as tie
+use Rattle.line.proofs.Staying.{others-gone, others-stays}
+use Rattle.line.proofs.keep.Statement.{statement}
+use Rattle.line.proofs.keep.Tie as tie
 
 abbrev Inv-loop : tie.InvT-loop
 Inv-loop line who places n stay₀ k₀ i₀ stay k i =

@@ -2,8 +2,8 @@
 use mathlib.Core.Path.{sym, _∙_}
 use borrow.Author.Needs.{needs}
 use borrow.Author.Tests.{le-leb, lt-leb}
-use Rattle.password.proofs.inputs.check_seed.Statement.{statement}
-use Rattle.password.proofs.inputs.check_seed.Tie as tie
+use Rattle.password.proofs.phrase_and_seed.check_seed.Statement.{statement}
+use Rattle.password.proofs.phrase_and_seed.check_seed.Tie as tie
 
 pub check-seed-spec : {M : Type 1} → statement M
 check-seed-spec =

@@ -1,2 +1,0 @@
--- What the proofs of `departing`'s functions share.
-pub mod Staying
