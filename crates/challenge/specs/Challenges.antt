@@ -5,8 +5,10 @@ use mathlib.Core.List.{List, [], _∷_, _++_, map}
 use lib.Dec.{ltb, eqb}
 use lib.ListN.{length, take, drop}
 use Rattle.refusal.specs.declared.Refusal.{Refusal}
+use Rattle.refusal.specs.declared.Listing.{Listing}
 use Rattle.refusal.specs.declared.Checked.{Checked}
 use Rattle.refusal.specs.declared.Written.{Written}
+use Rattle.refusal.specs.Numbers.{listingOf, unrefused}
 use Rattle.refusal.specs.Checks.{unless, must}
 use Rattle.text.specs.Kinds.{inToken, isBlank, lowerOf}
 use Rattle.text.specs.Scan.{runOf}
@@ -80,6 +82,11 @@ challengeOf text =
     (unless Challenge.Refused (step4 text)
     (unless Challenge.Refused (step5 text)
     (found text)))))
+
+-- the number and values of a challenge that was read: count, start, length and bytes used
+abbrev pub challengeNumbers : Challenge → Listing × ℕ × ℕ × ℕ × ℕ
+challengeNumbers (Challenge.Read count start len used) = (unrefused, count, start, len, used)
+challengeNumbers (Challenge.Refused why) = (listingOf why, 0, 0, 0, 0)
 
 -- "the seed is handed back as the part of the caller's bytes where it stands"; "After a refusal the part
 -- handed back is the empty one at the start": where the part starts, and how long it is

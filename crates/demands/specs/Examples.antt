@@ -2,8 +2,8 @@
 use Prim.Native.Nat.{ℕ, _%_}
 use mathlib.Core.Path.{_≡_, refl}
 use mathlib.Core.List.{List, [], _∷_, _++_, map, flatten}
-use Rattle.refusal.specs.declared.Refusal.{Refusal}
-use Rattle.refusal.specs.declared.Reading.{Reading}
+use Rattle.refusal.specs.declared.Listing.{Listing}
+use Rattle.refusal.specs.Numbers.{unrefused, readingNumbers}
 use Rattle.text.specs.Tests.{every}
 use Rattle.text.specs.Scan.{runOf, parted, unspaced}
 use Rattle.text.specs.Digits as Digits
@@ -12,9 +12,8 @@ use Rattle.password.specs.PhraseAndSeed.{plain}
 use Rattle.dictionary.specs.Words.{wordsIn, lines, words}
 use Rattle.dictionary.specs.Dictionary.{standsFrom, placeOf}
 use Rattle.sixwords.specs.Places.{pairs, pairSum, whole, cut, placesOf, joined, allPlaces, numberOf}
-use Rattle.challenge.specs.declared.reading.Challenge.{Challenge}
 use Rattle.text.specs.Counts.{isCount}
-use Rattle.challenge.specs.Challenges.{opening, algorithm, tokenAt, nextAt, countAt, seedAt, challengeOf, seedOf}
+use Rattle.challenge.specs.Challenges.{opening, algorithm, tokenAt, nextAt, countAt, seedAt, challengeOf, challengeNumbers, seedOf}
 use Rattle.text.specs.Tests.{same}
 use Rattle.hex.specs.Hex.{sixteenDigits, hexReading}
 use Rattle.reply.specs.Reply.{isWord, sixWords, foundAfter, readingOf}
@@ -26,25 +25,32 @@ pub data Asked : Type 0 where
   challengeFor : List ℕ → Asked
   replyFor : List ℕ → Asked
 
--- What it prints: places, a pair sum with its remainder by 4, a challenge with its seed, or a reading.
+-- What it prints: places, a pair sum with its remainder by 4, the numbers of a challenge with its seed, or those of a reading.
 pub data Said : Type 0 where
   places : List ℕ → Said
   sum : ℕ → ℕ → Said
-  challenge : Challenge → List ℕ → Said
-  reply : Reading → Said
+  challenge : Listing × ℕ × ℕ × ℕ × ℕ → List ℕ → Said
+  reply : Listing × ℕ → Said
 
 -- What the definitions say.
 abbrev pub said : Asked → Said
 said (Asked.placesFor p) = places (placesOf p)
 said (Asked.sumFor p) = sum (pairSum p) (pairSum p % 4)
-said (Asked.challengeFor text) = challenge (challengeOf text) (seedOf text)
-said (Asked.replyFor text) = reply (readingOf text)
+said (Asked.challengeFor text) = challenge (challengeNumbers (challengeOf text)) (seedOf text)
+said (Asked.replyFor text) = reply (readingNumbers (readingOf text))
 
 abbrev pub newline : List ℕ
 newline = 10 ∷ []
 
-abbrev pub refused : Refusal → Said
-refused why = challenge (Challenge.Refused why) []
+-- A refusal by its number: of a challenge, of a reply. A reply's password.
+abbrev pub unread : ℕ → Said
+unread n = challenge (record { 0 = n; 1 = 0 }, 0, 0, 0, 0) []
+
+abbrev pub refused : ℕ → Said
+refused n = reply (record { 0 = n; 1 = 0 }, 0)
+
+abbrev pub password : ℕ → Said
+password p = reply (unrefused, p)
 
 -- 85c43ee03857765b
 abbrev pub printed : ℕ
@@ -57,18 +63,18 @@ examples =
     (placesFor 0xffff_ffff_ffff_ffff, places (2047 ∷ 2047 ∷ 2047 ∷ 2047 ∷ 2047 ∷ 2044 ∷ [])) ∷
     (sumFor printed, sum 46 2) ∷
     (placesFor printed, places (1070 ∷ 271 ∷ 1472 ∷ 901 ∷ 955 ∷ 366 ∷ [])) ∷
-    (replyFor (codes "FOWL KID MASH DEAD DUAL OAF"), reply (Reading.Password printed)) ∷
-    (replyFor (codes "FOWL KID MASH DEAD DUAL NUT"), reply (Reading.Refused Refusal.PairSumWrong)) ∷
-    (replyFor (codes "FOWL KID MASH DEAD DUAL O"), reply (Reading.Refused Refusal.PairSumWrong)) ∷
-    (replyFor (codes "FOWL KID MASH DEAD DUAL OAK"), reply (Reading.Refused Refusal.PairSumWrong)) ∷
-    (challengeFor (codes "otp-md5 487 dog2" ++ newline), challenge (Challenge.Read 487 12 4 17) (codes "dog2")) ∷
-    (challengeFor (codes "otp-md5 487 dog2"), refused Refusal.SeedUnended) ∷
-    (challengeFor (codes "otp-md5 0487 dog2" ++ newline), refused Refusal.CountUnread) ∷
-    (challengeFor (codes "otp-md5 1 SixteenLettersAA" ++ newline), challenge (Challenge.Read 1 10 16 27) (codes "SixteenLettersAA")) ∷
-    (challengeFor (codes "otp-md5 1 SeventeenLettersA" ++ newline), refused Refusal.SeedLength) ∷
-    (challengeFor (codes "otp-md5 1 Length_Okay" ++ newline), refused Refusal.SeedCharacter) ∷
-    (replyFor (codes "85C4 3EE0 3857 765B"), reply (Reading.Password printed)) ∷
-    (replyFor (codes "85C4 3EE0 3857 765"), reply (Reading.Refused Refusal.ReplyUnread)) ∷ []
+    (replyFor (codes "FOWL KID MASH DEAD DUAL OAF"), password printed) ∷
+    (replyFor (codes "FOWL KID MASH DEAD DUAL NUT"), refused 32) ∷
+    (replyFor (codes "FOWL KID MASH DEAD DUAL O"), refused 32) ∷
+    (replyFor (codes "FOWL KID MASH DEAD DUAL OAK"), refused 32) ∷
+    (challengeFor (codes "otp-md5 487 dog2" ++ newline), challenge (unrefused, 487, 12, 4, 17) (codes "dog2")) ∷
+    (challengeFor (codes "otp-md5 487 dog2"), unread 25) ∷
+    (challengeFor (codes "otp-md5 0487 dog2" ++ newline), unread 22) ∷
+    (challengeFor (codes "otp-md5 1 SixteenLettersAA" ++ newline), challenge (unrefused, 1, 10, 16, 27) (codes "SixteenLettersAA")) ∷
+    (challengeFor (codes "otp-md5 1 SeventeenLettersA" ++ newline), unread 23) ∷
+    (challengeFor (codes "otp-md5 1 Length_Okay" ++ newline), unread 24) ∷
+    (replyFor (codes "85C4 3EE0 3857 765B"), password printed) ∷
+    (replyFor (codes "85C4 3EE0 3857 765"), refused 33) ∷ []
 
 pub examples-hold : map (λ (e : Asked × Said). said (e .0)) examples ≡ map (λ (e : Asked × Said). e .1) examples
 unfolding codes runOf Digits.numberAfter every plain isCount opening algorithm same tokenAt nextAt countAt seedAt challengeOf

@@ -5,10 +5,10 @@ use Rattle.refusal.specs.declared.Refusal.{Refusal}
 use Rattle.refusal.specs.declared.Checked.{Checked}
 use Rattle.refusal.specs.declared.Written.{Written}
 use Rattle.refusal.specs.declared.Listing.{Listing}
-use Rattle.refusal.specs.Numbers.{listingOf}
+use Rattle.refusal.specs.Numbers.{listingOf, checkedNumbers, writtenNumbers}
 use Rattle.table.specs.declared.Replied.{Replied}
 use Rattle.table.specs.Table.{State}
-use Rattle.table.specs.Steps.{enrol, remove, join, leave, challenge, reply, renew, tick}
+use Rattle.table.specs.Steps.{enrol, remove, join, leave, challenge, reply, renew, tick, repliedNumbers}
 
 -- A call with its arguments. Challenge is lent a buffer, of which only the room counts.
 pub data Call : Type 0 where
@@ -61,12 +61,12 @@ answer (Call.Reply port text) s = repliedAnswer (reply port text s .answer)
 answer (Call.Renew port count seed password text) s = repliedAnswer (renew port count seed password text s .answer)
 answer Call.Tick s = Answer.Done
 
--- This paper's number for an answer, and its value: 0 with the count or the bytes, else the refusal's with 31's place.
-abbrev pub numbers : Answer → Listing
-numbers Answer.Done = record { 0 = 0; 1 = 0 }
-numbers (Answer.Count count) = record { 0 = 0; 1 = count }
-numbers (Answer.Wrote n) = record { 0 = 0; 1 = n }
-numbers (Answer.Refused why) = listingOf why
+-- The number and value of a call's answer: those of the enum that it answers with.
+abbrev pub numbers : Answer → Listing × ℕ
+numbers Answer.Done = (checkedNumbers Checked.Good, 0)
+numbers (Answer.Count count) = repliedNumbers (Replied.Accepted count)
+numbers (Answer.Wrote n) = writtenNumbers (Written.Wrote n)
+numbers (Answer.Refused why) = (listingOf why, 0)
 
 -- The table after several, the first first.
 unfoldable pub run : List Call → State → State

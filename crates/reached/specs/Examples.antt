@@ -4,7 +4,6 @@ use mathlib.Core.Path.{_≡_, refl}
 use mathlib.Core.List.{List, [], _∷_, map}
 use lib.ListN.{replicate}
 use Rattle.text.specs.Tests.{every}
-use Rattle.refusal.specs.declared.Refusal.{Refusal}
 use Rattle.text.specs.Quoted.{codes}
 use Rattle.password.specs.PhraseAndSeed.{plain}
 use Rattle.password.specs.Password.{numberAfter}
@@ -12,7 +11,7 @@ use Rattle.line.specs.Line.{some, joined, others, turnWithout, without, ticked}
 use Rattle.accounts.specs.Rooms.{placeOf}
 use Rattle.table.specs.Table.{fresh}
 use Rattle.table.specs.Steps.{enrolChecked, enrol, joinChecked, join, tick}
-use Rattle.reached.specs.Calls.{Call, Answer, run, answers}
+use Rattle.reached.specs.Calls.{Call, run, answers, numbers}
 
 -- Account 1 with the count 99; port 0 joins for it.
 abbrev enrolled : Call
@@ -38,6 +37,6 @@ unfolding run enrolChecked enrol joinChecked join placeOf some joined plain ever
 first-turn = refl
 
 -- "Enrolling `A Seed`: 24."
-pub spaced-seed : answers (Call.Enrol 1 99 (codes "A Seed") [] ∷ []) fresh ≡ Answer.Refused Refusal.SeedCharacter ∷ []
+pub spaced-seed : map numbers (answers (Call.Enrol 1 99 (codes "A Seed") (0 ∷ 0 ∷ 0 ∷ 0 ∷ 0 ∷ 0 ∷ 0 ∷ 7 ∷ []) ∷ []) fresh) ≡ (record { 0 = 24; 1 = 0 }, 0) ∷ []
 unfolding answers enrolChecked enrol plain every codes placeOf
 spaced-seed = refl

@@ -1,6 +1,10 @@
--- The numbers of document 01, 'Refusal numbers', and the place that 31 carries.
+-- The numbers of document 01, 'Refusal numbers', and the place that 31 carries; then the number and values of each enum answer.
+use Prim.Native.Nat.{ℕ}
 use Rattle.refusal.specs.declared.Refusal.{Refusal}
 use Rattle.refusal.specs.declared.Listing.{Listing}
+use Rattle.refusal.specs.declared.Checked.{Checked}
+use Rattle.refusal.specs.declared.Reading.{Reading}
+use Rattle.refusal.specs.declared.Written.{Written}
 
 -- "A refusal returns its number, and 31 its place": the number, then the place, 0 with every other.
 abbrev pub listingOf : Refusal → Listing
@@ -34,3 +38,22 @@ listingOf Refusal.ReplyWrong = record { 0 = 61; 1 = 0 }
 listingOf Refusal.ReplyWrongThird = record { 0 = 62; 1 = 0 }
 listingOf Refusal.SeedSame = record { 0 = 63; 1 = 0 }
 listingOf Refusal.LinesOutside = record { 0 = 70; 1 = 0 }
+
+-- 01, 'Forms': "Each enum answer has a definition that gives this paper's number and values for each of its cases." The number and place, 0
+-- where nothing is refused; then the value, 0 after a refusal. A challenge's is in `challenge`, that of Reply and Renew in `table`.
+abbrev pub unrefused : Listing
+unrefused = record { 0 = 0; 1 = 0 }
+
+abbrev pub checkedNumbers : Checked → Listing
+checkedNumbers Checked.Good = unrefused
+checkedNumbers (Checked.Refused why) = listingOf why
+
+-- and the password
+abbrev pub readingNumbers : Reading → Listing × ℕ
+readingNumbers (Reading.Password password) = (unrefused, password)
+readingNumbers (Reading.Refused why) = (listingOf why, 0)
+
+-- and the bytes written
+abbrev pub writtenNumbers : Written → Listing × ℕ
+writtenNumbers (Written.Wrote n) = (unrefused, n)
+writtenNumbers (Written.Refused why) = (listingOf why, 0)

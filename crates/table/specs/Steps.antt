@@ -4,9 +4,11 @@ use mathlib.Core.Bool.{cond}
 use mathlib.Core.List.{List, [], _∷_, map}
 use lib.Dec.{eqb}
 use Rattle.refusal.specs.declared.Refusal.{Refusal}
+use Rattle.refusal.specs.declared.Listing.{Listing}
 use Rattle.refusal.specs.declared.Checked.{Checked}
 use Rattle.refusal.specs.declared.Reading.{Reading}
 use Rattle.refusal.specs.declared.Written.{Written}
+use Rattle.refusal.specs.Numbers.{listingOf, unrefused}
 use Rattle.refusal.specs.Checks.{unless, inOrder}
 use Rattle.password.specs.PhraseAndSeed.{seedChecked}
 use Rattle.password.specs.Password.{Algorithm, hash, bytesOf}
@@ -33,6 +35,11 @@ settled r = record { answer = r .answer; state = view (r .table) }
 
 abbrev pub answered : Answered → After Replied
 answered r = record { answer = r .answer; state = view (r .table) }
+
+-- The number and value of what Reply and Renew answer: the new count.
+abbrev pub repliedNumbers : Replied → Listing × ℕ
+repliedNumbers (Replied.Accepted count) = (unrefused, count)
+repliedNumbers (Replied.Refused why) = (listingOf why, 0)
 
 -- "A refusal .. changes no buffer and no table."
 abbrev pub refused : State → Refusal → After Checked
