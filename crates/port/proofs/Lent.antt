@@ -91,13 +91,13 @@ use Rattle.port.proofs.Port as T
 use Rattle.port.proofs.Port.Laws as T′
 
 -- The by-value step's parameters and result, and those of the function that is lent the record.
-abbrev by-value : Ended
+abbrev pub by-value : Ended
 by-value = record {
   signature = record { lifetimes = 0; outlives = []; params = plain (λ _. T.the-row) ∷ []; result = plain (λ _. T.the-row) };
   kept = (yes, tt);
 }
 
-abbrev lent : Ended
+abbrev pub lent : Ended
 lent = record {
   signature = record { lifetimes = 1; outlives = []; params = RefMutOf (0 ∷ []) tt (plain (λ _. T.the-row)) (λ _. tt) ∷ []; result = plain (λ _. unit) };
   kept = (yes, tt);
@@ -127,10 +127,10 @@ module _ (stepped : Port → Port) (#step : Name) where
 
   module _ {M : Type 1} (𝓤 : URA M) (H : Heap 𝓤) (A : Atoms 𝓤) where
     -- what the step promises, and what the function does
-    abbrev step-clauses : Clauses 𝓤 by-value
+    abbrev pub step-clauses : Clauses 𝓤 by-value
     step-clauses κs a = record { ghost = Unit {0}; requires = λ _. emp 𝓤; ensures = λ _ r _. fact 𝓤 (r ≡ stepped (a .0)) }
 
-    abbrev lent-clauses : Clauses 𝓤 lent
+    abbrev pub lent-clauses : Clauses 𝓤 lent
     lent-clauses κs a = record { ghost = Unit {0}; requires = λ _. emp 𝓤; ensures = λ _ _ end. fact 𝓤 (now (end .0) ≡ stepped (now (a .0))) }
 
     abbrev pub Step : Contract 𝓤

@@ -8,13 +8,13 @@ pub struct Port {
     pub shut: u16,
 }
 
-// A wrong reply: the third in a row shuts the port for 900 ticks.
-pub fn after_wrong(mut port: Port) -> Port
-    ensures { λ r. ⌜ r ≡ wrongly port ⌝ }
+// What becomes of a record, by value. A wrong reply: the third in a row shuts the port for 900 ticks.
+fn wrong_step(mut own: Port) -> Port
+    ensures { λ r. ⌜ r ≡ wrongly own ⌝ }
 {
-    if port.wrong < 2 {
-        port.wrong += 1;
-        return port;
+    if own.wrong < 2 {
+        own.wrong += 1;
+        return own;
     }
     Port {
         wrong: 0,
@@ -31,40 +31,63 @@ pub fn wrong_answer(port: Port) -> Refusal
     Refusal::ReplyWrongThird
 }
 
-pub fn after_right(mut port: Port) -> Port
-    ensures { λ r. ⌜ r ≡ rightly port ⌝ }
+fn right_step(mut own: Port) -> Port
+    ensures { λ r. ⌜ r ≡ rightly own ⌝ }
 {
-    port.wrong = 0;
-    port
+    own.wrong = 0;
+    own
 }
 
-pub fn after_tick(mut port: Port) -> Port
-    ensures { λ r. ⌜ r ≡ cooled port ⌝ }
+fn tick_step(mut own: Port) -> Port
+    ensures { λ r. ⌜ r ≡ cooled own ⌝ }
 {
-    if 0 < port.shut {
-        port.shut -= 1;
-        return port;
+    if 0 < own.shut {
+        own.shut -= 1;
+        return own;
     }
-    port
+    own
 }
 
-// The same where a port's own record stands: it is lent and brought up to date.
+// A port's own record is lent and brought up to date where it stands.
 
 pub fn tick(port: &mut Port)
     ensures { λ _. ⌜ now (port .exit) ≡ cooled (now (port .entry)) ⌝ }
 {
-    *port = after_tick(*port);
+    *port = tick_step(*port);
 }
 
 pub fn right(port: &mut Port)
     ensures { λ _. ⌜ now (port .exit) ≡ rightly (now (port .entry)) ⌝ }
 {
-    *port = after_right(*port);
+    *port = right_step(*port);
 }
 
 // The answer is `wrong_answer` of the record as it was.
 pub fn wrong(port: &mut Port)
     ensures { λ _. ⌜ now (port .exit) ≡ wrongly (now (port .entry)) ⌝ }
 {
-    *port = after_wrong(*port);
+    *port = wrong_step(*port);
+}
+
+// The table's calls hand a record over, which is lent to these three: who calls with plain values needs no walk by hand.
+
+pub fn after_tick(mut port: Port) -> Port
+    ensures { λ r. ⌜ r ≡ cooled port ⌝ }
+{
+    tick(&mut port);
+    port
+}
+
+pub fn after_right(mut port: Port) -> Port
+    ensures { λ r. ⌜ r ≡ rightly port ⌝ }
+{
+    right(&mut port);
+    port
+}
+
+pub fn after_wrong(mut port: Port) -> Port
+    ensures { λ r. ⌜ r ≡ wrongly port ⌝ }
+{
+    wrong(&mut port);
+    port
 }
