@@ -48,6 +48,7 @@ use Rattle.grounds.specs.Given.{numbers-given}
 use Rattle.grounds.specs.Keeps.{made}
 use Rattle.grounds.specs.Exactly as Rows
 use Rattle.grounds.specs.Refusing as Refusing
+use Rattle.grounds.specs.RefusingCalls.{call-exactly}
 use Rattle.grounds.specs.CardProgram as CardProgram
 use Rattle.grounds.specs.Unchanged.{refused-unchanged, word-place}
 
@@ -112,7 +113,7 @@ program-prints input = CardProgram.card-printed input
 
 -- Each call of the table, in every table that calls make, the empty one too. The rows of each are `conditionsOf`'s.
 pub call-refusals : (s : State) → Reached s → (c : Call) → Exactly (numbers (answer c s) .0) (conditionsOf c s)
-call-refusals s r c = Refusing.call-exactly s (made s r) c
+call-refusals s r c = call-exactly s (made s r) c
 
 -- What these share: the checks of a pass-phrase, of a seed and of an account's new values, and the reader of hex.
 pub phrase-refusals : (phrase : List ℕ) → Exactly (numbers (checkedAnswer (phraseChecked phrase)) .0) (phraseRows phrase)

@@ -81,7 +81,7 @@ challengeRows text =
     ++ seedRows (tokenAt text (seedAt text))
     ++ (25, not (terminated (drop (endOf text (seedAt text)) text))) ∷ []
 
--- Where the tokens of a text stand in the dictionary, in either case; whether one does, and the place.
+-- Where the tokens of a text stand in the dictionary, in either case; whether one does, and at which place.
 abbrev pub placesFound : List ℕ → List Found
 placesFound text = map placeOf (map upperText (tokens text))
 
@@ -93,17 +93,24 @@ abbrev pub placeIn : Found → ℕ
 placeIn (Found.At place) = place
 placeIn Found.Nothing = 0
 
--- "the sum modulo 4 is put after the 64 bits as two bits": so it is in these 66
-abbrev pub sumStands : ℕ → Bool
-sumStands bits = eqb (pairSum (bits / 4) % 4) (bits % 4)
+-- "the sum modulo 4 is put after the 64 bits as two bits": so it is in the 66 bits of these places.
+abbrev pub sumRight : List ℕ → Bool
+sumRight places = eqb (pairSum (joined 0 places / 4) % 4) (joined 0 places % 4)
+
+-- Each token is a word of the dictionary; the pair sum of the words is right.
+abbrev pub wordsKnown : List ℕ → Bool
+wordsKnown text = every isKnown (placesFound text)
+
+abbrev pub wordsRight : List ℕ → Bool
+wordsRight text = sumRight (map placeIn (placesFound text))
 
 -- 30 to 33: "reply over 128 bytes"; "a word not in the dictionary"; "words known, pair sum wrong"; "neither six words nor sixteen
 -- digits"
 abbrev pub replyRows : List ℕ → List Row
 replyRows text =
     (30, ltb 128 (length text)) ∷
-    (31, sixWords (tokens text) && not (every isKnown (placesFound text))) ∷
-    (32, sixWords (tokens text) && every isKnown (placesFound text) && not (sumStands (joined 0 (map placeIn (placesFound text))))) ∷
+    (31, sixWords (tokens text) && not (wordsKnown text)) ∷
+    (32, sixWords (tokens text) && wordsKnown text && not (wordsRight text)) ∷
     (33, not (sixWords (tokens text)) && not (sixteenDigits (unspaced text))) ∷ []
 
 -- ---- the card

@@ -13,6 +13,7 @@ pub mod Replies
 pub mod Answering
 pub mod Exactly
 pub mod Refusing
+pub mod RefusingCalls
 pub mod CardProgram
 pub mod Unchanged
 pub mod Given
