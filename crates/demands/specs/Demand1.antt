@@ -104,7 +104,8 @@ pub card-refusals : (phrase challenge : List ℕ) (k room : ℕ)
     → Exactly (writtenNumber (cardWritten phrase challenge k room)) (cardRows phrase challenge k ++ roomRows room (cardOf phrase challenge k))
 card-refusals phrase challenge k room = Refusing.card-exactly phrase challenge k room
 
--- The program `card`, 12 and then the same: it prints `refused` and the number, or the card where no condition holds.
+-- The program `card`, 12 and then the same: it prints `refused` and the number, which has four digits at most, or the card where no
+-- condition holds.
 pub program-refusals : (input : List ℕ) (n : ℕ) → n ≤ 9999 → (answerOf input ≡ refusedWith n) ↔ FirstHolds n (programRows input)
 program-refusals input n h = CardProgram.refused-printed input n h
 
