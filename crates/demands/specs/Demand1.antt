@@ -1,58 +1,62 @@
--- The letter's first demand: bad input is refused by the number listed for it, and what a refusal changes.
+-- The letter's first demand: bad input is refused by the number listed for it, and what a refusal changes. The conditions of the
+-- refusals are in `grounds`, Conditions.
 use Prim.Native.Nat.{ℕ, _≤_}
-use mathlib.Core.Path.{_≡_, refl}
-use mathlib.Core.Bool.{true, false}
-use mathlib.Core.List.{List, [], _∷_}
+use mathlib.Core.Path.{_≡_}
+use mathlib.Core.Logic.{_↔_}
+use mathlib.Core.Bool.{true, false, not}
+use mathlib.Core.List.{List, [], _∷_, _++_}
+use lib.Dec.{ltb}
+use lib.ListN.{length}
 use Rattle.refusal.specs.declared.Refusal.{Refusal}
 use Rattle.refusal.specs.declared.Reading.{Reading}
 use Rattle.refusal.specs.Numbers.{listingOf}
-use Rattle.md5.specs.Digest.{digestOf}
-use Rattle.password.specs.Password.{Algorithm, generated}
-use Rattle.challenge.specs.Challenges.{challengeOf, challengeWritten}
-use Rattle.cards.specs.Cards.{cardWritten}
-use Rattle.reply.specs.Reply.{readingOf}
-use Rattle.table.specs.Table.{State}
-use Rattle.reached.specs.Calls.{Call, Answer, answer, after}
-use Rattle.reached.specs.InTurn.{Reached}
-use Rattle.grounds.specs.Listed.{isIn, listed, refusalsOf, Within, ReadWithin, ChallengeWithin, WriteWithin, Given}
 use Rattle.refusal.specs.Each.{Each}
+use Rattle.text.specs.Put.{writtenOf}
+use Rattle.digests.specs.Md5.{md5}
+use Rattle.md5.specs.Digest.{digestOf}
+use Rattle.password.specs.PhraseAndSeed.{phraseChecked, seedChecked}
+use Rattle.password.specs.Password.{Algorithm, generated}
+use Rattle.challenge.specs.Challenges.{challengeOf, challengeText, challengeWritten}
+use Rattle.hex.specs.Hex.{hexOf, sixteenDigits, hexReading}
+use Rattle.sixwords.specs.Spelling.{wordsOf}
+use Rattle.reply.specs.Reply.{readingOf}
+use Rattle.cards.specs.Cards.{cardOf, cardWritten}
+use Rattle.cards.specs.Printed.{answerOf}
+use Rattle.accounts.specs.Rooms.{Room}
+use Rattle.accounts.specs.Accounts.{valuesChecked}
+use Rattle.table.specs.Table.{State}
+use Rattle.reached.specs.Calls.{Call, Answer, checkedAnswer, answer, numbers, after}
+use Rattle.reached.specs.InTurn.{Reached}
+use Rattle.grounds.specs.Listed.{isIn, listed, readNumber, writtenNumber, challengeNumber, Given}
+use Rattle.grounds.specs.Conditions.{
+  NoneHolds,
+  FirstHolds,
+  Exactly,
+  phraseRows,
+  seedRows,
+  roomRows,
+  challengeRows,
+  replyRows,
+  cardRows,
+  programRows,
+  refusedWith,
+  cardAsked,
+  valuesRows,
+  conditionsOf,
+}
 use Rattle.grounds.specs.Given.{numbers-given}
 use Rattle.grounds.specs.Keeps.{made}
-use Rattle.grounds.specs.Refusing.{reading-within, call-within, generated-within, challenge-read-within, challenge-written-within, digest-within, card-within}
+use Rattle.grounds.specs.Exactly as Rows
+use Rattle.grounds.specs.Refusing as Refusing
+use Rattle.grounds.specs.RefusingCalls.{call-exactly}
+use Rattle.grounds.specs.CardProgram as CardProgram
 use Rattle.grounds.specs.Unchanged.{refused-unchanged, word-place}
+
+-- ---- the list
 
 -- Each refusal's number is in the list.
 pub refusal-listed : (why : Refusal) → isIn (listingOf why .0) listed ≡ true
-refusal-listed Refusal.PhraseShort = refl
-refusal-listed Refusal.PhraseLong = refl
-refusal-listed Refusal.InputLong = refl
-refusal-listed Refusal.CountHigh = refl
-refusal-listed Refusal.OpeningWrong = refl
-refusal-listed Refusal.AlgorithmUnknown = refl
-refusal-listed Refusal.CountUnread = refl
-refusal-listed Refusal.SeedLength = refl
-refusal-listed Refusal.SeedCharacter = refl
-refusal-listed Refusal.SeedUnended = refl
-refusal-listed Refusal.ReplyLong = refl
-refusal-listed (Refusal.WordUnknown place) = refl
-refusal-listed Refusal.PairSumWrong = refl
-refusal-listed Refusal.ReplyUnread = refl
-refusal-listed Refusal.BufferShort = refl
-refusal-listed Refusal.IdZero = refl
-refusal-listed Refusal.CountOutside = refl
-refusal-listed Refusal.IdTaken = refl
-refusal-listed Refusal.TableFull = refl
-refusal-listed Refusal.AccountMissing = refl
-refusal-listed Refusal.PortUnknown = refl
-refusal-listed Refusal.PortInLine = refl
-refusal-listed Refusal.PortShut = refl
-refusal-listed Refusal.AccountUsedUp = refl
-refusal-listed Refusal.PortNotInLine = refl
-refusal-listed Refusal.PortNotInFront = refl
-refusal-listed Refusal.ReplyWrong = refl
-refusal-listed Refusal.ReplyWrongThird = refl
-refusal-listed Refusal.SeedSame = refl
-refusal-listed Refusal.LinesOutside = refl
+refusal-listed why = Rows.refusal-listed why
 
 -- And each number of the list is the answer of some call.
 pub listed-given : Each Given listed
@@ -62,34 +66,73 @@ listed-given = numbers-given
 pub place-of-31 : (text : List ℕ) (place : ℕ) → readingOf text ≡ Reading.Refused (Refusal.WordUnknown place) → (1 ≤ place) × (place ≤ 6)
 place-of-31 text place e = word-place text place e
 
--- What each function may refuse with, for every input. "The generator checks 10, 11, 23, 24, 13 in that order; the challenge writer 23,
--- 24, 13, 40."
-pub digest-refusals : (m : List ℕ) (room : ℕ) → WriteWithin (12 ∷ 40 ∷ []) (digestOf m room)
-digest-refusals m room = digest-within m room
+-- ---- "Bad input is refused by the number listed for it": for every input of each function, the number is the answer exactly if its
+-- condition holds and those before it don't, in the order of the checks, and there is no refusal exactly if none holds.
 
+pub digest-refusals : (m : List ℕ) (room : ℕ)
+    → Exactly (writtenNumber (digestOf m room)) ((12, ltb 4096 (length m)) ∷ roomRows room (md5 m))
+digest-refusals m room = Refusing.digest-exactly m room
+
+-- "The generator checks 10, 11, 23, 24, 13 in that order"
 pub generator-refusals : (phrase seed : List ℕ) (count : ℕ)
-    → ReadWithin (10 ∷ 11 ∷ 23 ∷ 24 ∷ 13 ∷ []) (generated Algorithm.md5 phrase seed count)
-generator-refusals phrase seed count = generated-within phrase seed count
+    → Exactly (readNumber (generated Algorithm.md5 phrase seed count)) (phraseRows phrase ++ seedRows seed ++ (13, ltb 9999 count) ∷ [])
+generator-refusals phrase seed count = Refusing.generator-exactly phrase seed count
 
-pub reply-refusals : (text : List ℕ) → ReadWithin (30 ∷ 31 ∷ 32 ∷ 33 ∷ []) (readingOf text)
-reply-refusals text = reading-within (30 ∷ 31 ∷ 32 ∷ 33 ∷ []) text refl refl refl refl
+-- 30 to 33
+pub reply-refusals : (text : List ℕ) → Exactly (readNumber (readingOf text)) (replyRows text)
+reply-refusals text = Refusing.reply-exactly text
 
-pub challenge-refusals : (text : List ℕ) → ChallengeWithin (20 ∷ 21 ∷ 22 ∷ 23 ∷ 24 ∷ 25 ∷ []) (challengeOf text)
-challenge-refusals text = challenge-read-within (20 ∷ 21 ∷ 22 ∷ 23 ∷ 24 ∷ 25 ∷ []) refl refl refl refl refl refl text
+-- 20 to 25
+pub challenge-refusals : (text : List ℕ) → Exactly (challengeNumber (challengeOf text)) (challengeRows text)
+challenge-refusals text = Refusing.challenge-exactly text
 
-pub challenge-writer-refusals : (seed : List ℕ) (count room : ℕ) → WriteWithin (23 ∷ 24 ∷ 13 ∷ 40 ∷ []) (challengeWritten seed count room)
-challenge-writer-refusals seed count room = challenge-written-within seed count room
+-- "the challenge writer 23, 24, 13, 40"
+pub challenge-writer-refusals : (seed : List ℕ) (count room : ℕ)
+    → Exactly (writtenNumber (challengeWritten seed count room))
+    (seedRows seed ++ (13, ltb 9999 count) ∷ roomRows room (challengeText seed count))
+challenge-writer-refusals seed count room = Refusing.challenge-writer-exactly seed count room
 
--- "Order: 10, 11, 20 to 25, 70, 40"
+-- "the word and hex writers only 40"
+pub words-writer-refusals : (p room : ℕ) → Exactly (writtenNumber (writtenOf room (wordsOf p))) (roomRows room (wordsOf p))
+words-writer-refusals p room = Refusing.writer-exactly room (wordsOf p)
+
+pub hex-writer-refusals : (p room : ℕ) → Exactly (writtenNumber (writtenOf room (hexOf p))) (roomRows room (hexOf p))
+hex-writer-refusals p room = Refusing.writer-exactly room (hexOf p)
+
+-- The card writer: "Order: 10, 11, 20 to 25, 70, 40".
 pub card-refusals : (phrase challenge : List ℕ) (k room : ℕ)
-    → WriteWithin (10 ∷ 11 ∷ 20 ∷ 21 ∷ 22 ∷ 23 ∷ 24 ∷ 25 ∷ 70 ∷ 40 ∷ []) (cardWritten phrase challenge k room)
-card-refusals phrase challenge k room = card-within phrase challenge k room
+    → Exactly (writtenNumber (cardWritten phrase challenge k room)) (cardRows phrase challenge k ++ roomRows room (cardOf phrase challenge k))
+card-refusals phrase challenge k room = Refusing.card-exactly phrase challenge k room
 
--- Each call of the table refuses with one of its own numbers, in every table that calls make, the empty one too.
-pub call-refusals : (s : State) → Reached s → (c : Call) → Within (refusalsOf c) (answer c s)
-call-refusals s r c = call-within s (made s r) c
+-- The program `card`, 12 and then the same: it prints `refused` and the number, which has four digits at most, or the card where no
+-- condition holds.
+pub program-refusals : (input : List ℕ) (n : ℕ) → n ≤ 9999 → (answerOf input ≡ refusedWith n) ↔ FirstHolds n (programRows input)
+program-refusals input n h = CardProgram.refused-printed input n h
 
--- "the list says what a refusal changes, which is mostly nothing": a refusal other than 61 and 62 leaves every table as it is.
+pub program-prints : (input : List ℕ) → (answerOf input ≡ cardAsked input) ↔ NoneHolds (programRows input)
+program-prints input = CardProgram.card-printed input
+
+-- Each call of the table, in every table that calls make, the empty one too. The rows of each are `conditionsOf`'s.
+pub call-refusals : (s : State) → Reached s → (c : Call) → Exactly (numbers (answer c s) .0) (conditionsOf c s)
+call-refusals s r c = call-exactly s (made s r) c
+
+-- What these share: the checks of a pass-phrase, of a seed and of an account's new values, and the reader of hex.
+pub phrase-refusals : (phrase : List ℕ) → Exactly (numbers (checkedAnswer (phraseChecked phrase)) .0) (phraseRows phrase)
+phrase-refusals phrase = Refusing.phrase-exactly phrase
+
+pub seed-refusals : (seed : List ℕ) → Exactly (numbers (checkedAnswer (seedChecked seed)) .0) (seedRows seed)
+seed-refusals seed = Refusing.seed-exactly seed
+
+pub values-refusals : (count : ℕ) (seed : List ℕ) (present : Room)
+    → Exactly (numbers (checkedAnswer (valuesChecked count seed present)) .0) (valuesRows count seed present)
+values-refusals count seed present = Refusing.values-exactly count seed present
+
+pub hex-reader-refusals : (s : List ℕ) → Exactly (readNumber (hexReading s)) ((33, not (sixteenDigits s)) ∷ [])
+hex-reader-refusals s = Refusing.hex-reader-exactly s
+
+-- ---- "the list says what a refusal changes, which is mostly nothing"
+
+-- A refusal other than 61 and 62 leaves every table as it is.
 pub refusal-changes-nothing : (why : Refusal) → isIn (listingOf why .0) (61 ∷ 62 ∷ []) ≡ false
     → (c : Call) (s : State) → answer c s ≡ Answer.Refused why → after c s ≡ s
 refusal-changes-nothing why other c s e = refused-unchanged why other c s e

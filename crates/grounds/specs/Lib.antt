@@ -1,5 +1,6 @@
--- What the pages of `demands` rest on. Listed has the words of the first demand; the rest is how the demands are proved.
+-- What the pages of `demands` rest on. Listed and Conditions have the words of the first demand; the rest is how the demands are proved.
 pub mod Listed
+pub mod Conditions
 pub mod Standing
 pub mod Few
 pub mod Moved
@@ -10,7 +11,10 @@ pub mod Keeps
 pub mod Owned
 pub mod Replies
 pub mod Answering
+pub mod Exactly
 pub mod Refusing
+pub mod RefusingCalls
+pub mod CardProgram
 pub mod Unchanged
 pub mod Given
 pub mod LongestWait

@@ -1,7 +1,8 @@
--- The words of the letter's first demand: the list of refusal numbers, and which of them each table call may answer.
+-- The words of the letter's first demand: the list of refusal numbers, and that a number is some call's answer. Which answer goes by which
+-- conditions is in Conditions.
 use Prim.Native.Nat.{ℕ}
 use mathlib.Core.Path.{_≡_}
-use mathlib.Core.Bool.{Bool, true, false, _||_}
+use mathlib.Core.Bool.{Bool, false, _||_}
 use mathlib.Core.List.{List, [], _∷_}
 use lib.Dec.{eqb}
 use Rattle.refusal.specs.declared.Reading.{Reading}
@@ -16,7 +17,7 @@ use Rattle.reply.specs.Reply.{readingOf}
 use Rattle.hex.specs.Hex.{hexOf}
 use Rattle.cards.specs.Cards.{cardWritten}
 use Rattle.table.specs.Table.{fresh}
-use Rattle.reached.specs.Calls.{Call, Answer, writtenAnswer, answer, numbers, run}
+use Rattle.reached.specs.Calls.{Call, answer, numbers, run}
 
 -- One of the numbers is n.
 abbrev pub isIn : ℕ → List ℕ → Bool
@@ -28,37 +29,6 @@ abbrev pub listed : List ℕ
 listed =
     10 ∷ 11 ∷ 12 ∷ 13 ∷ 20 ∷ 21 ∷ 22 ∷ 23 ∷ 24 ∷ 25 ∷ 30 ∷ 31 ∷ 32 ∷ 33 ∷ 40 ∷ 50 ∷ 51 ∷ 52 ∷ 53 ∷ 54 ∷ 55 ∷ 56 ∷ 57 ∷ 58 ∷ 59 ∷ 60
     ∷ 61 ∷ 62 ∷ 63 ∷ 70 ∷ []
-
--- 01, 'Table, ports and turns': the refusals of each call, in the order of its checks.
-abbrev pub refusalsOf : Call → List ℕ
-refusalsOf (Call.Enrol id count seed password) = 50 ∷ 51 ∷ 23 ∷ 24 ∷ 52 ∷ 53 ∷ []
-refusalsOf (Call.Remove id) = 54 ∷ []
-refusalsOf (Call.Join port id) = 55 ∷ 54 ∷ 56 ∷ 57 ∷ 58 ∷ []
-refusalsOf (Call.Leave port) = 55 ∷ 59 ∷ []
-refusalsOf (Call.Challenge port room) = 55 ∷ 59 ∷ 60 ∷ 58 ∷ 40 ∷ []
-refusalsOf (Call.Reply port text) = 55 ∷ 59 ∷ 60 ∷ 58 ∷ 30 ∷ 31 ∷ 32 ∷ 33 ∷ 61 ∷ 62 ∷ []
-refusalsOf (Call.Renew port count seed password text) =
-    55 ∷ 59 ∷ 60 ∷ 58 ∷ 51 ∷ 23 ∷ 24 ∷ 63 ∷ 30 ∷ 31 ∷ 32 ∷ 33 ∷ 61 ∷ 62 ∷ []
-refusalsOf Call.Tick = []
-
--- The answer is no refusal, or one whose number is among these.
-abbrev pub Within : List ℕ → Answer → Type 0
-Within numbers Answer.Done = Unit {0}
-Within numbers (Answer.Count count) = Unit {0}
-Within numbers (Answer.Wrote n) = Unit {0}
-Within numbers (Answer.Refused why) = isIn (listingOf why .0) numbers ≡ true
-
--- The same of a reading, of a challenge that was read, and of a text that was to be written.
-abbrev pub ReadWithin : List ℕ → Reading → Type 0
-ReadWithin numbers (Reading.Password password) = Unit {0}
-ReadWithin numbers (Reading.Refused why) = isIn (listingOf why .0) numbers ≡ true
-
-abbrev pub ChallengeWithin : List ℕ → Challenge → Type 0
-ChallengeWithin numbers (Challenge.Read count start len used) = Unit {0}
-ChallengeWithin numbers (Challenge.Refused why) = isIn (listingOf why .0) numbers ≡ true
-
-abbrev pub WriteWithin : List ℕ → Written → Type 0
-WriteWithin numbers written = Within numbers (writtenAnswer written)
 
 -- ---- the number of an answer, 0 where it is no refusal
 

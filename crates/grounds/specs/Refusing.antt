@@ -1,31 +1,36 @@
--- Which refusals each check, reading and call may give.
-use Prim.Native.Nat.{ℕ, suc, _+_, _-_, _≤_}
-use native.Mathlib.Omega.{arith}
-use mathlib.Core.Path.{_≡_, refl}
-use mathlib.Core.Bool.{Bool, true, false, cond, not, _&&_}
-use mathlib.Core.List.{List, [], _∷_, _++_, map}
-use borrow.Author.Tests.{le-ltb}
-use lib.Dec.{eqb, leb, ltb}
+-- The refusals of the checks, the readers and the writers go by their rows.
+use Prim.Native.Nat.{ℕ, suc, _/_}
+use mathlib.Core.Path.{_≡_, refl, sym, ap, ap₂, _∙_}
+use mathlib.Core.Bool.{Bool, true, false, false≢true, cond, not, _&&_, _||_, Bool·not-not}
+use mathlib.Core.List.{List, [], _∷_, _++_, map, append-nil}
+use borrow.Author.Tests.{lt-ltb, le-ltb, leb-true, leb-false}
+use lib.Dec.{leb, ltb}
 use lib.ListN.{length, take, drop}
+use lib.Seq.{append-snoc}
 use Rattle.refusal.specs.declared.Refusal.{Refusal}
 use Rattle.refusal.specs.declared.Checked.{Checked}
 use Rattle.refusal.specs.declared.Reading.{Reading}
 use Rattle.refusal.specs.declared.Written.{Written}
-use Rattle.refusal.specs.Numbers.{listingOf}
-use Rattle.refusal.specs.Checks.{must, unless, inOrder}
+use Rattle.refusal.specs.Checks.{unless}
 use Rattle.text.specs.Kinds.{lowerOf}
-use Rattle.text.specs.Tests.{either}
+use Rattle.text.specs.Tests.{every, same, both, cases}
 use Rattle.text.specs.Scan.{tokens, unspaced}
-use Rattle.password.specs.PhraseAndSeed.{plain, seedChecked}
-use Rattle.password.specs.Password.{Algorithm, bytesOf, hash, password, generated}
+use Rattle.text.specs.Digits.{numberOf}
+use Rattle.text.specs.Put.{writtenOf}
+use Rattle.text.specs.Counts.{isCount}
+use Rattle.digests.specs.Md5.{md5}
+use Rattle.md5.specs.Digest.{digestOf}
+use Rattle.password.specs.PhraseAndSeed.{plain, phraseChecked, seedChecked}
+use Rattle.password.specs.Password.{Algorithm, generated}
 use Rattle.dictionary.specs.declared.Found.{Found}
 use Rattle.dictionary.specs.Dictionary.{placeOf}
+use Rattle.dictionary.specs.Laws.{found-word}
 use Rattle.sixwords.specs.declared.Number.{Number}
-use Rattle.sixwords.specs.Places.{numberOf as placesNumber}
-use Rattle.md5.specs.Digest.{digestOf}
-use Rattle.digests.specs.Md5.{md5}
+use Rattle.sixwords.specs.Places.{joined, allPlaces, numberOf as placesNumber}
+use Rattle.hex.specs.Hex.{sixteenDigits, hexReading}
+use Rattle.reply.specs.Reply.{isWord, sixWords, upperText, summed, foundAfter, readingOf}
+use Rattle.reply.specs.Laws.{spelt-token, six-parts}
 use Rattle.challenge.specs.declared.reading.Challenge.{Challenge}
-use Rattle.text.specs.Counts.{isCount}
 use Rattle.challenge.specs.Challenges.{
   opening,
   algorithm,
@@ -34,347 +39,287 @@ use Rattle.challenge.specs.Challenges.{
   countAt,
   seedAt,
   terminated,
-  step1,
-  step2,
-  step3,
-  step4,
-  step5,
-  found,
   challengeOf,
   challengeText,
   challengeWritten,
 }
-use Rattle.text.specs.Tests.{same}
-use Rattle.hex.specs.Hex.{sixteenDigits, hexReading}
-use Rattle.reply.specs.Reply.{sixWords, upperText, summed, foundAfter, readingOf}
-use Rattle.cards.specs.CardChecks.{challengeChecked, countOf, linesChecked, cardChecked}
+use Rattle.cards.specs.CardChecks.{challengeChecked, countOf, cardChecked}
 use Rattle.cards.specs.Cards.{cardOf, cardWritten}
-use Rattle.line.specs.Line.{standsIn}
-use Rattle.table.specs.declared.Replied.{Replied}
-use Rattle.accounts.specs.Rooms.{Room, holds}
-use Rattle.table.specs.Table.{State, isThere, accountOf, portOf, hasTurn, turnId}
-use Rattle.accounts.specs.Accounts.{countWithin, lowered, newRoom}
-use Rattle.table.specs.TableChecks.{idGiven, idNew, roomLeft, accountThere, portKnown, notInLine, portOpen, notUsedUp, inLine, inFront, seedNew}
-use Rattle.table.specs.Steps as Steps
-use Rattle.table.specs.Steps.{After, refused, replyRefused, done, enrolChecked, joinChecked, leaveChecked, turnChecked, renewChecked, offered, read}
-use Rattle.reached.specs.Calls.{Call, checkedAnswer, repliedAnswer, writtenAnswer, answer}
-use Rattle.reached.specs.InTurn.{HasTurn}
-use Rattle.refusal.specs.Each.{Each}
-use Rattle.grounds.specs.Listed.{isIn, refusalsOf, Within, ReadWithin, ChallengeWithin, WriteWithin}
-use Rattle.reached.specs.Made.{Made}
-use Rattle.refusal.specs.Laws.{must-good}
-use Rattle.reached.specs.Outcome.{turn-good}
-use Rattle.grounds.specs.Owned.{turn-there}
-use Rattle.grounds.specs.Keeps.{account-good}
-use Rattle.grounds.specs.Answering.{kept-seed, seed-checked}
+use Rattle.accounts.specs.Rooms.{Room}
+use Rattle.accounts.specs.Accounts.{valuesChecked}
+use Rattle.reached.specs.Calls.{Answer, checkedAnswer, writtenAnswer, numbers}
+use Rattle.grounds.specs.Listed.{readNumber, writtenNumber, challengeNumber}
+use Rattle.grounds.specs.Conditions.{
+  Row,
+  Exactly,
+  phraseRows,
+  seedRows,
+  valuesRows,
+  roomRows,
+  challengeRows,
+  placesFound,
+  isKnown,
+  placeIn,
+  sumRight,
+  wordsKnown,
+  wordsRight,
+  replyRows,
+  cardRows,
+}
+use Rattle.grounds.specs.Exactly.{
+  listedAs,
+  Follows,
+  exactly,
+  no-rows,
+  test-row,
+  behind,
+  behind-test,
+  otherwise,
+  then-check,
+  then-test,
+}
 
--- A check's refusal is among the numbers.
-abbrev pub CheckWithin : List ℕ → Checked → Type 0
-CheckWithin ns check = Within ns (checkedAnswer check)
+-- ---- what an answer refuses
 
--- ---- checks
+abbrev pub answerChecked : Answer → Checked
+answerChecked Answer.Done = Checked.Good
+answerChecked (Answer.Count count) = Checked.Good
+answerChecked (Answer.Wrote n) = Checked.Good
+answerChecked (Answer.Refused why) = Checked.Refused why
 
-module _ (ns : List ℕ) where
-  pub must-within : (test : Bool) (why : Refusal) → isIn (listingOf why .0) ns ≡ true → CheckWithin ns (must test why)
-  must-within true why h = tt
-  must-within false why h = h
+pub answer-exactly : (a : Answer) (rows : List Row) → Follows (answerChecked a) rows → Exactly (numbers a .0) rows
+answer-exactly Answer.Done rows f = exactly Checked.Good rows f 0 refl
+answer-exactly (Answer.Count count) rows f = exactly Checked.Good rows f 0 refl
+answer-exactly (Answer.Wrote n) rows f = exactly Checked.Good rows f 0 refl
+answer-exactly (Answer.Refused why) rows f = exactly (Checked.Refused why) rows f (listedAs why) refl
 
-  pub then-within : (check next : Checked) → CheckWithin ns check → (check ≡ Checked.Good → CheckWithin ns next)
-      → CheckWithin ns (unless Checked.Refused check next)
-  then-within Checked.Good next h k = k refl
-  then-within (Checked.Refused why) next h k = h
+abbrev pub readChecked : Reading → Checked
+readChecked (Reading.Password password) = Checked.Good
+readChecked (Reading.Refused why) = Checked.Refused why
 
-  order-within : (checks : List Checked) → Each (CheckWithin ns) checks → CheckWithin ns (inOrder checks)
-  order-within [] h = tt
-  order-within (check ∷ checks) h = then-within check (inOrder checks) (h .0) (λ e. order-within checks (h .1))
+abbrev pub writtenChecked : Written → Checked
+writtenChecked w = answerChecked (writtenAnswer w)
 
-  pub seed-within : (seed : List ℕ) → isIn 23 ns ≡ true → isIn 24 ns ≡ true → CheckWithin ns (seedChecked seed)
-  seed-within seed a b = go (leb 1 (length seed) && leb (length seed) 16) (plain seed)
-    where
-      go : (t u : Bool)
-          → CheckWithin ns (cond t (cond u Checked.Good (Checked.Refused Refusal.SeedCharacter)) (Checked.Refused Refusal.SeedLength))
-      go true true = tt
-      go true false = b
-      go false u = a
+checked-exactly : (check : Checked) (rows : List Row) → Follows check rows → Exactly (numbers (checkedAnswer check) .0) rows
+checked-exactly Checked.Good rows f = exactly Checked.Good rows f 0 refl
+checked-exactly (Checked.Refused why) rows f = exactly (Checked.Refused why) rows f (listedAs why) refl
 
-  settled-within : (s s′ : State) (check : Checked) → CheckWithin ns check
-      → Within ns (checkedAnswer (unless (refused s) check (done s′) .answer))
-  settled-within s s′ Checked.Good h = tt
-  settled-within s s′ (Checked.Refused why) h = h
+read-exactly : (r : Reading) (rows : List Row) → Follows (readChecked r) rows → Exactly (readNumber r) rows
+read-exactly (Reading.Password password) rows f = exactly Checked.Good rows f 0 refl
+read-exactly (Reading.Refused why) rows f = exactly (Checked.Refused why) rows f (listedAs why) refl
 
-  replied-within : (s : State) (check : Checked) (next : After Replied) → CheckWithin ns check
-      → Within ns (repliedAnswer (next .answer)) → Within ns (repliedAnswer (unless (replyRefused s) check next .answer))
-  replied-within s Checked.Good next h k = k
-  replied-within s (Checked.Refused why) next h k = h
+written-exactly : (w : Written) (rows : List Row) → Follows (writtenChecked w) rows → Exactly (writtenNumber w) rows
+written-exactly (Written.Wrote n) rows f = exactly Checked.Good rows f 0 refl
+written-exactly (Written.Refused why) rows f = exactly (Checked.Refused why) rows f (listedAs why) refl
 
-  -- ---- readings
+-- ---- a pass-phrase, a seed, an account's new values
 
-  sum-within : (n : Number) → isIn 32 ns ≡ true → ReadWithin ns (summed n)
-  sum-within (Number.Is p) h = tt
-  sum-within Number.SumWrong h = h
+phrase-rows : (phrase : List ℕ) → Follows (phraseChecked phrase) (phraseRows phrase)
+phrase-rows phrase =
+    let next = otherwise (λ (c : Checked). c) Checked.Refused (λ why. refl) in
+    next (ltb (length phrase) 10) Refusal.PhraseShort _ _
+    (next (ltb 63 (length phrase)) Refusal.PhraseLong Checked.Good [] (no-rows Checked.Good refl))
 
-  found-within : (k : ℕ) (known : List ℕ) (found : List Found) → isIn 31 ns ≡ true → isIn 32 ns ≡ true
-      → ReadWithin ns (foundAfter k known found)
-  unfolding foundAfter
-  found-within k known [] a b = sum-within (placesNumber known) b
-  found-within k known (Found.At i ∷ found) a b = found-within (suc k) (known ++ i ∷ []) found a b
-  found-within k known (Found.Nothing ∷ found) a b = a
+pub phrase-exactly : (phrase : List ℕ) → Exactly (numbers (checkedAnswer (phraseChecked phrase)) .0) (phraseRows phrase)
+phrase-exactly phrase = checked-exactly (phraseChecked phrase) (phraseRows phrase) (phrase-rows phrase)
 
-  pub reading-within : (text : List ℕ) → isIn 30 ns ≡ true → isIn 31 ns ≡ true → isIn 32 ns ≡ true → isIn 33 ns ≡ true
-      → ReadWithin ns (readingOf text)
-  unfolding readingOf hexReading
-  reading-within text a b c d =
-      either (ReadWithin ns) (ltb 128 (length text)) (λ e. a)
-      (λ e. either (ReadWithin ns) (sixWords (tokens text))
-      (λ f. found-within 1 [] (map placeOf (map upperText (tokens text))) b c)
-      (λ f. either (ReadWithin ns) (sixteenDigits (unspaced text)) (λ g. tt) (λ g. d)))
-
-  -- ---- offered passwords
-
-  offered-within : (port w : ℕ) (next : Room) (s : State) → isIn 61 ns ≡ true → isIn 62 ns ≡ true
-      → Within ns (repliedAnswer (offered port w next s .answer))
-  unfolding offered
-  offered-within port w next s a b = go (eqb (hash Algorithm.md5 (bytesOf w)) (accountOf (turnId s) s .password)) (leb 3 (portOf port s .wrong + 1))
-    where
-      go : (t u : Bool)
-          → Within ns (repliedAnswer (cond t (Steps.accepted port next s)
-          (record {
-            answer = Replied.Refused (cond u Refusal.ReplyWrongThird Refusal.ReplyWrong);
-            state = Steps.rejected port s .state;
-          }) .answer))
-      go true u = tt
-      go false true = b
-      go false false = a
-
-  read-within : (s : State) (r : Reading) (next : ℕ → After Replied) → ReadWithin ns r
-      → ((w : ℕ) → Within ns (repliedAnswer (next w .answer))) → Within ns (repliedAnswer (read s r next .answer))
-  read-within s (Reading.Password w) next h k = k w
-  read-within s (Reading.Refused why) next h k = h
-
-  -- ---- a port's turn, in a table that calls make: no 54
-
-  turn-within : (port : ℕ) (s : State) → Made s → isIn 55 ns ≡ true → isIn 59 ns ≡ true → isIn 60 ns ≡ true → isIn 58 ns ≡ true
-      → CheckWithin ns (turnChecked port s)
-  unfolding turnChecked
-  turn-within port s m a b c d =
-      then-within (portKnown port) _ (must-within (leb port 3) Refusal.PortUnknown a)
-      (λ k. then-within (inLine port s) _ (must-within (standsIn port (s .line)) Refusal.PortNotInLine b)
-      (λ l. then-within (inFront port s) _ (must-within (hasTurn port s) Refusal.PortNotInFront c)
-      (λ f.
-      let turn : HasTurn port (turnId s) s = record { front = must-good _ _ f; account = refl } in
-      rw (turn-there port (turnId s) s m turn .0)
-      (order-within (notUsedUp (turnId s) s ∷ []) (must-within (ltb 1 (accountOf (turnId s) s .count)) Refusal.AccountUsedUp d, tt)))))
-
--- ---- the calls
-
-enrol-within : (id count : ℕ) (seed password : List ℕ) (s : State)
-    → Within (refusalsOf (Call.Enrol id count seed password)) (answer (Call.Enrol id count seed password) s)
-unfolding Steps.enrol enrolChecked
-enrol-within id count seed password s =
-    let ns = refusalsOf (Call.Enrol id count seed password) in
-    settled-within ns s _ (inOrder (idGiven id ∷ countWithin count ∷ seedChecked seed ∷ idNew id s ∷ roomLeft s ∷ []))
-    (order-within ns (idGiven id ∷ countWithin count ∷ seedChecked seed ∷ idNew id s ∷ roomLeft s ∷ []) (
-      must-within ns (not (eqb id 0)) Refusal.IdZero refl,
-      (
-        must-within ns (leb 2 count && leb count 9999) Refusal.CountOutside refl,
-        (
-          seed-within ns seed refl refl,
-          (
-            must-within ns (not (isThere id s)) Refusal.IdTaken refl,
-            (must-within ns (holds 0 (s .rooms)) Refusal.TableFull refl, tt),
-          ),
-        ),
-      ),
-    ))
-
-remove-within : (id : ℕ) (s : State) → Within (refusalsOf (Call.Remove id)) (answer (Call.Remove id) s)
-unfolding Steps.remove
-remove-within id s =
-    settled-within (refusalsOf (Call.Remove id)) s _ (accountThere id s)
-    (must-within (refusalsOf (Call.Remove id)) (isThere id s) Refusal.AccountMissing refl)
-
-join-within : (port id : ℕ) (s : State) → Within (refusalsOf (Call.Join port id)) (answer (Call.Join port id) s)
-unfolding Steps.join joinChecked
-join-within port id s =
-    let ns = refusalsOf (Call.Join port id) in
-    settled-within ns s _ (inOrder (portKnown port ∷ accountThere id s ∷ notInLine port s ∷ portOpen port s ∷ notUsedUp id s ∷ []))
-    (order-within ns (portKnown port ∷ accountThere id s ∷ notInLine port s ∷ portOpen port s ∷ notUsedUp id s ∷ []) (
-      must-within ns (leb port 3) Refusal.PortUnknown refl,
-      (
-        must-within ns (isThere id s) Refusal.AccountMissing refl,
-        (
-          must-within ns (not (standsIn port (s .line))) Refusal.PortInLine refl,
-          (
-            must-within ns (eqb (portOf port s .shut) 0) Refusal.PortShut refl,
-            (must-within ns (ltb 1 (accountOf id s .count)) Refusal.AccountUsedUp refl, tt),
-          ),
-        ),
-      ),
-    ))
-
-leave-within : (port : ℕ) (s : State) → Within (refusalsOf (Call.Leave port)) (answer (Call.Leave port) s)
-unfolding Steps.leave leaveChecked
-leave-within port s =
-    let ns = refusalsOf (Call.Leave port) in
-    settled-within ns s _ (inOrder (portKnown port ∷ inLine port s ∷ []))
-    (order-within ns (portKnown port ∷ inLine port s ∷ [])
-    (must-within ns (leb port 3) Refusal.PortUnknown refl, (must-within ns (standsIn port (s .line)) Refusal.PortNotInLine refl, tt)))
-
--- The challenge writer's own checks, 23, 24 and 13, find nothing wrong with a good account.
-challenge-within : (port room : ℕ) (s : State) → Made s → Within (refusalsOf (Call.Challenge port room)) (answer (Call.Challenge port room) s)
-unfolding Steps.challenge challengeWritten
-challenge-within port room s m = go (turnChecked port s) refl (turn-within ns port s m refl refl refl refl)
+pub seed-rows : (seed : List ℕ) → Follows (seedChecked seed) (seedRows seed)
+unfolding Follows
+seed-rows seed rest = go (leb 1 (length seed) && leb (length seed) 16) (plain seed)
   where
-    ns : List ℕ
-    ns = refusalsOf (Call.Challenge port room)
+    go : (a b : Bool)
+        → unless listedAs (cond a (cond b Checked.Good (Checked.Refused Refusal.SeedCharacter)) (Checked.Refused Refusal.SeedLength)) rest
+        ≡ cond (not a) 23 (cond (not b) 24 rest)
+    go true true = refl
+    go true false = refl
+    go false b = refl
 
-    written : Written → Type 0
-    written w = Within ns (writtenAnswer w)
+pub seed-exactly : (seed : List ℕ) → Exactly (numbers (checkedAnswer (seedChecked seed)) .0) (seedRows seed)
+seed-exactly seed = checked-exactly (seedChecked seed) (seedRows seed) (seed-rows seed)
 
-    go : (check : Checked) → turnChecked port s ≡ check → CheckWithin ns check
-        → Within ns (writtenAnswer (unless Written.Refused check (challengeWritten (accountOf (turnId s) s .seed) (accountOf (turnId s) s .count - 1) room)))
-    go (Checked.Refused why) e h = h
-    go Checked.Good e h =
-        let g = turn-good port s e in
-        let good = account-good (turnId s) s (g .there) (m .good) in
-        let seed = accountOf (turnId s) s .seed in
-        let count = accountOf (turnId s) s .count - 1 in
-        let most = good .count-to in
-        let low : count ≤ 9999 = omega arith in
-        rw (seed-checked seed (good .seed-from) (good .seed-to) (kept-seed seed (good .seed-kept) .1), le-ltb 9999 count low)
-        (either written (leb (length (challengeText seed count)) room) (λ f. tt) (λ f. refl))
+pub values-rows : (count : ℕ) (seed : List ℕ) (present : Room) → Follows (valuesChecked count seed present) (valuesRows count seed present)
+unfolding valuesChecked
+values-rows count seed present =
+    then-test (leb 2 count && leb count 9999) _ Refusal.CountOutside _ _ refl
+    (λ a. then-check (seedChecked seed) _ (seedRows seed) _ (seed-rows seed)
+    (λ b. then-test (not (same (map lowerOf seed) (present .seed))) _ Refusal.SeedSame _ _
+    (Bool·not-not (same (map lowerOf seed) (present .seed))) (λ c. no-rows Checked.Good refl)))
 
-reply-within : (port : ℕ) (text : List ℕ) (s : State) → Made s → Within (refusalsOf (Call.Reply port text)) (answer (Call.Reply port text) s)
-unfolding Steps.reply Steps.replyRead
-reply-within port text s m =
-    let ns = refusalsOf (Call.Reply port text) in
-    replied-within ns s (turnChecked port s) _ (turn-within ns port s m refl refl refl refl)
-    (read-within ns s (readingOf text) _ (reading-within ns text refl refl refl refl)
-    (λ w. offered-within ns port w (lowered (accountOf (turnId s) s) w) s refl refl))
+pub values-exactly : (count : ℕ) (seed : List ℕ) (present : Room)
+    → Exactly (numbers (checkedAnswer (valuesChecked count seed present)) .0) (valuesRows count seed present)
+values-exactly count seed present =
+    checked-exactly (valuesChecked count seed present) (valuesRows count seed present) (values-rows count seed present)
 
-renew-within : (port count : ℕ) (seed new text : List ℕ) (s : State) → Made s
-    → Within (refusalsOf (Call.Renew port count seed new text)) (answer (Call.Renew port count seed new text) s)
-unfolding Steps.renew Steps.renewRead renewChecked
-renew-within port count seed new text s m =
-    let ns = refusalsOf (Call.Renew port count seed new text) in
-    replied-within ns s (inOrder (turnChecked port s ∷ countWithin count ∷ seedChecked seed ∷ seedNew seed (turnId s) s ∷ [])) _
-    (order-within ns (turnChecked port s ∷ countWithin count ∷ seedChecked seed ∷ seedNew seed (turnId s) s ∷ []) (
-      turn-within ns port s m refl refl refl refl,
-      (
-        must-within ns (leb 2 count && leb count 9999) Refusal.CountOutside refl,
-        (
-          seed-within ns seed refl refl,
-          (must-within ns (not (same (map lowerOf seed) (accountOf (turnId s) s .seed))) Refusal.SeedSame refl, tt),
-        ),
-      ),
-    ))
-    (read-within ns s (readingOf text) _ (reading-within ns text refl refl refl refl)
-    (λ w. offered-within ns port w (newRoom (accountOf (turnId s) s .id) count seed new) s refl refl))
-
-pub call-within : (s : State) → Made s → (c : Call) → Within (refusalsOf c) (answer c s)
-call-within s m (Call.Enrol id count seed password) = enrol-within id count seed password s
-call-within s m (Call.Remove id) = remove-within id s
-call-within s m (Call.Join port id) = join-within port id s
-call-within s m (Call.Leave port) = leave-within port s
-call-within s m (Call.Challenge port room) = challenge-within port room s m
-call-within s m (Call.Reply port text) = reply-within port text s m
-call-within s m (Call.Renew port count seed password text) = renew-within port count seed password text s m
-call-within s m Call.Tick = tt
-
--- ---- the generator, the challenge reader and writer, the digest
-
-pub digest-within : (m : List ℕ) (room : ℕ) → WriteWithin (12 ∷ 40 ∷ []) (digestOf m room)
-digest-within m room =
-    either (WriteWithin (12 ∷ 40 ∷ [])) (ltb 4096 (length m)) (λ e. refl)
-    (λ e. either (WriteWithin (12 ∷ 40 ∷ [])) (leb (length (md5 m)) room) (λ f. tt) (λ f. refl))
-
-pub generated-within : (phrase seed : List ℕ) (count : ℕ) → ReadWithin (10 ∷ 11 ∷ 23 ∷ 24 ∷ 13 ∷ []) (generated Algorithm.md5 phrase seed count)
+pub generator-exactly : (phrase seed : List ℕ) (count : ℕ)
+    → Exactly (readNumber (generated Algorithm.md5 phrase seed count)) (phraseRows phrase ++ seedRows seed ++ (13, ltb 9999 count) ∷ [])
 unfolding generated
-generated-within phrase seed count =
-    go (ltb (length phrase) 10) (ltb 63 (length phrase)) (seedChecked seed) (seed-within ns seed refl refl) (ltb 9999 count)
+generator-exactly phrase seed count =
+    let next = behind readChecked Reading.Refused (λ why. refl) in
+    read-exactly (generated Algorithm.md5 phrase seed count) _
+    (next (phraseChecked phrase) _ (phraseRows phrase) _ (phrase-rows phrase)
+    (λ a. next (seedChecked seed) _ (seedRows seed) _ (seed-rows seed)
+    (λ b. otherwise readChecked Reading.Refused (λ why. refl) (ltb 9999 count) Refusal.CountHigh _ [] (no-rows Checked.Good refl))))
+
+-- ---- writers
+
+pub not-leb : (a b : ℕ) → not (leb a b) ≡ ltb b a
+not-leb a b =
+    cases (leb a b) (λ e. ap not e ∙ sym (le-ltb b a (leb-true a b e))) (λ e. ap not e ∙ sym (lt-ltb b a (leb-false a b e)))
+
+pub room-rows : (room : ℕ) (text : List ℕ) → Follows (writtenChecked (writtenOf room text)) (roomRows room text)
+unfolding Follows
+room-rows room text rest = go (leb (length text) room) ∙ ap (λ (b : Bool). cond b 40 rest) (not-leb (length text) room)
   where
-    ns : List ℕ
-    ns = 10 ∷ 11 ∷ 23 ∷ 24 ∷ 13 ∷ []
+    go : (t : Bool)
+        → unless listedAs (writtenChecked (cond t (Written.Wrote (length text)) (Written.Refused Refusal.BufferShort))) rest ≡ cond (not t) 40 rest
+    go true = refl
+    go false = refl
 
-    go : (a b : Bool) (k : Checked) → CheckWithin ns k → (d : Bool)
-        → ReadWithin ns
-        (unless Reading.Refused (cond a (Checked.Refused Refusal.PhraseShort) (cond b (Checked.Refused Refusal.PhraseLong) Checked.Good))
-        (unless Reading.Refused k
-        (cond d (Reading.Refused Refusal.CountHigh) (Reading.Password (password Algorithm.md5 phrase seed count)))))
-    go true b k h d = refl
-    go false true k h d = refl
-    go false false (Checked.Refused why) h d = h
-    go false false Checked.Good h true = refl
-    go false false Checked.Good h false = tt
+pub writer-exactly : (room : ℕ) (text : List ℕ) → Exactly (writtenNumber (writtenOf room text)) (roomRows room text)
+writer-exactly room text = written-exactly (writtenOf room text) (roomRows room text) (room-rows room text)
 
-pub challenge-written-within : (seed : List ℕ) (count room : ℕ) → WriteWithin (23 ∷ 24 ∷ 13 ∷ 40 ∷ []) (challengeWritten seed count room)
+pub digest-exactly : (m : List ℕ) (room : ℕ)
+    → Exactly (writtenNumber (digestOf m room)) ((12, ltb 4096 (length m)) ∷ roomRows room (md5 m))
+digest-exactly m room =
+    written-exactly (digestOf m room) _
+    (otherwise writtenChecked Written.Refused (λ why. refl) (ltb 4096 (length m)) Refusal.InputLong _ _ (room-rows room (md5 m)))
+
+pub challenge-writer-exactly : (seed : List ℕ) (count room : ℕ)
+    → Exactly (writtenNumber (challengeWritten seed count room))
+    (seedRows seed ++ (13, ltb 9999 count) ∷ roomRows room (challengeText seed count))
 unfolding challengeWritten
-challenge-written-within seed count room =
-    go (seedChecked seed) (seed-within ns seed refl refl) (ltb 9999 count) (leb (length (challengeText seed count)) room)
-  where
-    ns : List ℕ
-    ns = 23 ∷ 24 ∷ 13 ∷ 40 ∷ []
+challenge-writer-exactly seed count room =
+    written-exactly (challengeWritten seed count room) _
+    (behind writtenChecked Written.Refused (λ why. refl) (seedChecked seed) _ (seedRows seed) _ (seed-rows seed)
+    (λ a. otherwise writtenChecked Written.Refused (λ why. refl) (ltb 9999 count) Refusal.CountHigh _ _
+    (room-rows room (challengeText seed count))))
 
-    go : (k : Checked) → CheckWithin ns k → (d f : Bool)
-        → WriteWithin ns
-        (unless Written.Refused k
-        (cond d (Written.Refused Refusal.CountHigh)
-        (cond f (Written.Wrote (length (challengeText seed count))) (Written.Refused Refusal.BufferShort))))
-    go (Checked.Refused why) h d f = h
-    go Checked.Good h true f = refl
-    go Checked.Good h false true = tt
-    go Checked.Good h false false = refl
+-- ---- a challenge, and the card
 
-pub challenge-read-within : (ns : List ℕ) → isIn 20 ns ≡ true → isIn 21 ns ≡ true → isIn 22 ns ≡ true → isIn 23 ns ≡ true → isIn 24 ns ≡ true
-    → isIn 25 ns ≡ true → (text : List ℕ) → ChallengeWithin ns (challengeOf text)
+challenge-rows : (text : List ℕ) → Follows (challengeChecked (challengeOf text)) (challengeRows text)
 unfolding challengeOf
-challenge-read-within ns h₀ h₁ h₂ h₃ h₄ h₅ text =
-    go (step1 text) (must-within ns (same (take 4 text) opening) Refusal.OpeningWrong h₀)
-    (step2 text) (must-within ns (same (tokenAt text 4) algorithm) Refusal.AlgorithmUnknown h₁)
-    (step3 text) (must-within ns (isCount (tokenAt text (countAt text))) Refusal.CountUnread h₂)
-    (step4 text) (seed-within ns (tokenAt text (seedAt text)) h₃ h₄)
-    (step5 text) (must-within ns (terminated (drop (endOf text (seedAt text)) text)) Refusal.SeedUnended h₅)
+challenge-rows text =
+    let step = behind-test challengeChecked Challenge.Refused (λ why. refl) in
+    let seed = tokenAt text (seedAt text) in
+    step (same (take 4 text) opening) _ Refusal.OpeningWrong _ _ refl
+    (λ a. step (same (tokenAt text 4) algorithm) _ Refusal.AlgorithmUnknown _ _ refl
+    (λ b. step (isCount (tokenAt text (countAt text))) _ Refusal.CountUnread _ _ refl
+    (λ c. behind challengeChecked Challenge.Refused (λ why. refl) (seedChecked seed) _ (seedRows seed) _ (seed-rows seed)
+    (λ d. step (terminated (drop (endOf text (seedAt text)) text)) _ Refusal.SeedUnended _ _ refl (λ e. no-rows Checked.Good refl)))))
+
+pub challenge-exactly : (text : List ℕ) → Exactly (challengeNumber (challengeOf text)) (challengeRows text)
+challenge-exactly text = go (challengeOf text) (challenge-rows text)
   where
-    next : (k : Checked) (c : Challenge) → CheckWithin ns k → ChallengeWithin ns c → ChallengeWithin ns (unless Challenge.Refused k c)
-    next Checked.Good c h l = l
-    next (Checked.Refused why) c h l = h
+    go : (c : Challenge) → Follows (challengeChecked c) (challengeRows text) → Exactly (challengeNumber c) (challengeRows text)
+    go (Challenge.Read count start len used) f = exactly Checked.Good (challengeRows text) f 0 refl
+    go (Challenge.Refused why) f = exactly (Checked.Refused why) (challengeRows text) f (listedAs why) refl
 
-    go : (a : Checked) → CheckWithin ns a → (b : Checked) → CheckWithin ns b → (c : Checked) → CheckWithin ns c
-        → (d : Checked) → CheckWithin ns d → (e : Checked) → CheckWithin ns e
-        → ChallengeWithin ns
-        (unless Challenge.Refused a
-        (unless Challenge.Refused b
-        (unless Challenge.Refused c
-        (unless Challenge.Refused d
-        (unless Challenge.Refused e (found text))))))
-    go a i b j c k d l e m = next a _ i (next b _ j (next c _ k (next d _ l (next e (found text) m tt))))
-
--- ---- the card
-
-abbrev pub cardNumbers : List ℕ
-cardNumbers = 10 ∷ 11 ∷ 20 ∷ 21 ∷ 22 ∷ 23 ∷ 24 ∷ 25 ∷ 70 ∷ 40 ∷ []
-
-pub card-within : (phrase challenge : List ℕ) (k room : ℕ) → WriteWithin cardNumbers (cardWritten phrase challenge k room)
-unfolding cardWritten cardChecked
-card-within phrase challenge k room =
-    go (ltb (length phrase) 10) (ltb 63 (length phrase)) (challengeOf challenge)
-    (challenge-read-within cardNumbers refl refl refl refl refl refl challenge) (leb (length (cardOf phrase challenge k)) room)
+-- "card lines not 1 to 99 or more than the count"
+lines : (k n : ℕ) → not (leb 1 k && leb k 99 && leb k n) ≡ (not (leb 1 k && leb k 99) || ltb n k)
+lines k n = go (leb 1 k && leb k 99)
   where
-    go : (a b : Bool) (c : Challenge) → ChallengeWithin cardNumbers c → (f : Bool)
-        → WriteWithin cardNumbers
-        (unless Written.Refused
-        (unless Checked.Refused (cond a (Checked.Refused Refusal.PhraseShort) (cond b (Checked.Refused Refusal.PhraseLong) Checked.Good))
-        (unless Checked.Refused (challengeChecked c) (linesChecked k (countOf c))))
-        (cond f (Written.Wrote (length (cardOf phrase challenge k))) (Written.Refused Refusal.BufferShort)))
-    go true b c h f = refl
-    go false true c h f = refl
-    go false false (Challenge.Refused why) h f = h
-    go false false (Challenge.Read n s l u) h f = lines (leb 1 k && leb k 99 && leb k n) f
-      where
-        lines : (t f : Bool)
-            → WriteWithin cardNumbers
-            (unless Written.Refused (must t Refusal.LinesOutside)
-            (cond f (Written.Wrote (length (cardOf phrase challenge k))) (Written.Refused Refusal.BufferShort)))
-        lines true true = tt
-        lines true false = refl
-        lines false f = refl
+    go : (t : Bool) → not (t && leb k n) ≡ (not t || ltb n k)
+    go true = not-leb k n
+    go false = refl
+
+pub card-rows : (phrase challenge : List ℕ) (k : ℕ) → Follows (cardChecked phrase challenge k) (cardRows phrase challenge k)
+unfolding cardChecked
+card-rows phrase challenge k =
+    let n = countOf (challengeOf challenge) in
+    then-check (phraseChecked phrase) _ (phraseRows phrase) _ (phrase-rows phrase)
+    (λ a. then-check (challengeChecked (challengeOf challenge)) _ (challengeRows challenge) _ (challenge-rows challenge)
+    (λ b. test-row (leb 1 k && leb k 99 && leb k n) _ Refusal.LinesOutside (lines k n)))
+
+pub card-exactly : (phrase challenge : List ℕ) (k room : ℕ)
+    → Exactly (writtenNumber (cardWritten phrase challenge k room)) (cardRows phrase challenge k ++ roomRows room (cardOf phrase challenge k))
+unfolding cardWritten
+card-exactly phrase challenge k room =
+    written-exactly (cardWritten phrase challenge k room) _
+    (behind writtenChecked Written.Refused (λ why. refl) (cardChecked phrase challenge k) _ (cardRows phrase challenge k) _
+    (card-rows phrase challenge k) (λ a. room-rows room (cardOf phrase challenge k)))
+
+-- ---- a reply
+
+-- Words that are looked up: 31 unless each is known, and then the sum.
+found-first : (k : ℕ) (known : List ℕ) (found : List Found) (rest : ℕ)
+    → unless listedAs (readChecked (foundAfter k known found)) rest
+    ≡ cond (not (every isKnown found)) 31 (unless listedAs (readChecked (summed (placesNumber (known ++ map placeIn found)))) rest)
+unfolding foundAfter every
+found-first k known [] rest =
+    ap (λ (l : List ℕ). unless listedAs (readChecked (summed (placesNumber l))) rest) (sym (append-nil known))
+found-first k known (Found.At i ∷ found) rest =
+    found-first (suc k) (known ++ i ∷ []) found rest
+    ∙ ap (λ (l : List ℕ). cond (not (every isKnown found)) 31 (unless listedAs (readChecked (summed (placesNumber l))) rest))
+    (append-snoc known i (map placeIn found))
+found-first k known (Found.Nothing ∷ found) rest = refl
+
+sum-first : (s : List ℕ) (rest : ℕ) → allPlaces s ≡ true
+    → unless listedAs (readChecked (summed (placesNumber s))) rest ≡ cond (not (sumRight s)) 32 rest
+unfolding placesNumber
+sum-first s rest e = go (allPlaces s) e (sumRight s)
+  where
+    go : (a : Bool) → a ≡ true → (b : Bool)
+        → unless listedAs (readChecked (summed (cond (a && b) (Number.Is (joined 0 s / 4)) Number.SumWrong))) rest ≡ cond (not b) 32 rest
+    go true e true = refl
+    go true e false = refl
+    go false e b = absurd (false≢true e)
+
+-- Words that are known stand at places of the dictionary.
+known-places : (ts : List (List ℕ)) → every isWord ts ≡ true → every isKnown (map placeOf (map upperText ts)) ≡ true
+    → allPlaces (map placeIn (map placeOf (map upperText ts))) ≡ true
+unfolding every allPlaces
+known-places [] g k = refl
+known-places (t ∷ ts) g k =
+    ap₂ (λ (a b : Bool). a && b) (go (placeOf (upperText t)) refl (known .0)) (known-places ts (words .1) (known .1))
+  where
+    words : (isWord t ≡ true) × (every isWord ts ≡ true)
+    words = both (isWord t) (every isWord ts) g
+
+    known : (isKnown (placeOf (upperText t)) ≡ true) × (every isKnown (map placeOf (map upperText ts)) ≡ true)
+    known = both (isKnown (placeOf (upperText t))) (every isKnown (map placeOf (map upperText ts))) k
+
+    go : (r : Found) → placeOf (upperText t) ≡ r → isKnown r ≡ true → ltb (placeIn r) 2048 ≡ true
+    go (Found.At i) e h = lt-ltb i 2048 (found-word (upperText t) (spelt-token t (words .0)) i .0 e .0)
+    go Found.Nothing e h = absurd (false≢true h)
+
+words-first : (text : List ℕ) (rest : ℕ) → sixWords (tokens text) ≡ true
+    → unless listedAs (readChecked (foundAfter 1 [] (placesFound text))) rest
+    ≡ cond (not (wordsKnown text)) 31 (cond (wordsKnown text && not (wordsRight text)) 32 rest)
+words-first text rest e = found-first 1 [] (placesFound text) rest ∙ go (wordsKnown text) refl
+  where
+    go : (k : Bool) → wordsKnown text ≡ k
+        → cond (not k) 31 (unless listedAs (readChecked (summed (placesNumber (map placeIn (placesFound text))))) rest)
+        ≡ cond (not k) 31 (cond (k && not (wordsRight text)) 32 rest)
+    go true f = sum-first (map placeIn (placesFound text)) rest (known-places (tokens text) (six-parts (tokens text) e .1) f)
+    go false f = refl
+
+-- Otherwise hex.
+hex-rows : (s : List ℕ) → Follows (readChecked (hexReading s)) ((33, not (sixteenDigits s)) ∷ [])
+unfolding Follows hexReading
+hex-rows s rest = go (sixteenDigits s)
+  where
+    go : (t : Bool)
+        → unless listedAs (readChecked (cond t (Reading.Password (numberOf 16 s)) (Reading.Refused Refusal.ReplyUnread))) rest ≡ cond (not t) 33 rest
+    go true = refl
+    go false = refl
+
+pub hex-reader-exactly : (s : List ℕ) → Exactly (readNumber (hexReading s)) ((33, not (sixteenDigits s)) ∷ [])
+hex-reader-exactly s = read-exactly (hexReading s) _ (hex-rows s)
+
+pub reply-rows : (text : List ℕ) → Follows (readChecked (readingOf text)) (replyRows text)
+unfolding Follows readingOf
+reply-rows text rest = go (ltb 128 (length text)) (sixWords (tokens text)) refl
+  where
+    go : (a b : Bool) → sixWords (tokens text) ≡ b
+        → unless listedAs (readChecked (cond a (Reading.Refused Refusal.ReplyLong)
+        (cond b (foundAfter 1 [] (placesFound text)) (hexReading (unspaced text))))) rest
+        ≡ cond a 30
+        (cond (b && not (wordsKnown text)) 31
+        (cond (b && wordsKnown text && not (wordsRight text)) 32
+        (cond (not b && not (sixteenDigits (unspaced text))) 33 rest)))
+    go true b e = refl
+    go false true e = words-first text rest e
+    go false false e = hex-rows (unspaced text) rest
+
+pub reply-exactly : (text : List ℕ) → Exactly (readNumber (readingOf text)) (replyRows text)
+reply-exactly text = read-exactly (readingOf text) (replyRows text) (reply-rows text)

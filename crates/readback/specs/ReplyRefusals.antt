@@ -10,7 +10,6 @@ use lib.ListN.{length, length-map}
 use borrow.Author.Tests.{lt-ltb, leb-true, leb-false}
 use Rattle.refusal.specs.declared.Refusal.{Refusal}
 use Rattle.refusal.specs.declared.Reading.{Reading}
-use Rattle.refusal.specs.Numbers.{listingOf}
 use Rattle.text.specs.Tests.{every, cases, both}
 use Rattle.text.specs.Scan.{tokens, unspaced}
 use Rattle.text.specs.Digits.{numberOf}
@@ -269,31 +268,3 @@ module _ (text : List ℕ) (h : length text ≤ 128) (e : sixWords (tokens text)
               let there = number-accepted (f .ps) count p .0 q in
               absurd (f .none p (there .0) (f .words ∙ ap (map wordAt) (sym (there .1))))
           wrong Number.SumWrong q = refl
-
--- ---- and no other refusal is given
-abbrev InReplies : Refusal → Type 0
-InReplies why = (30 ≤ listingOf why .0) × (listingOf why .0 ≤ 33)
-
-same-why : (v why : Refusal) → Reading.Refused v ≡ Reading.Refused why → InReplies v → InReplies why
-same-why v why e i = let same : v ≡ why = cc in rw same at i
-
-found-refusals : (k : ℕ) (known : List ℕ) (found : List Found) (why : Refusal) → foundAfter k known found ≡ Reading.Refused why → InReplies why
-unfolding foundAfter
-found-refusals k known [] why e = go (placesNumber known) e
-  where
-    go : (n : Number) → summed n ≡ Reading.Refused why → InReplies why
-    go (Number.Is p) q = never (cc)
-    go Number.SumWrong q = same-why Refusal.PairSumWrong why q (omega arith)
-found-refusals k known (Found.At i ∷ found) why e = found-refusals (suc k) (known ++ i ∷ []) found why e
-found-refusals k known (Found.Nothing ∷ found) why e = same-why (Refusal.WordUnknown k) why e (omega arith)
-
-pub reply-refusals : (text : List ℕ) (why : Refusal) → readingOf text ≡ Reading.Refused why → (30 ≤ listingOf why .0) × (listingOf why .0 ≤ 33)
-reply-refusals text why e =
-    cases (leb (length text) 128)
-    (λ t.
-    let short = leb-true (length text) 128 t in
-    cases (sixWords (tokens text))
-    (λ s. found-refusals 1 [] (map placeOf (map upperText (tokens text))) why (sym (reads-words text short s) ∙ e))
-    (λ s. same-why Refusal.ReplyUnread why (ap Reading.Refused (sym (hex-why (unspaced text) why (sym (reads-hex text short s) ∙ e) .1)))
-    (omega arith)))
-    (λ t. same-why Refusal.ReplyLong why (sym (long-refused text .1 (leb-false (length text) 128 t)) ∙ e) (omega arith))

@@ -1,0 +1,209 @@
+-- The conditions of the refusals, in document 01's words: the rows of each function, in the order of its checks.
+use Prim.Native.Nat.{ℕ, _/_, _%_}
+use mathlib.Core.Path.{_≡_}
+use mathlib.Core.Logic.{_↔_}
+use mathlib.Core.Bool.{Bool, true, false, not, _&&_, _||_}
+use mathlib.Core.List.{List, [], _∷_, _++_, map}
+use lib.Dec.{eqb, leb, ltb}
+use lib.ListN.{length, take, drop}
+use Rattle.refusal.specs.declared.Reading.{Reading}
+use Rattle.refusal.specs.Each.{Each}
+use Rattle.text.specs.Kinds.{lowerOf}
+use Rattle.text.specs.Tests.{every, same}
+use Rattle.text.specs.Scan.{tokens, unspaced}
+use Rattle.text.specs.Quoted.{codes}
+use Rattle.text.specs.Counts.{isCount, decimalOf}
+use Rattle.password.specs.PhraseAndSeed.{plain}
+use Rattle.password.specs.Password.{Algorithm, bytesOf, hash}
+use Rattle.dictionary.specs.declared.Found.{Found}
+use Rattle.dictionary.specs.Dictionary.{placeOf}
+use Rattle.sixwords.specs.Places.{pairSum, joined}
+use Rattle.hex.specs.Hex.{sixteenDigits}
+use Rattle.reply.specs.Reply.{sixWords, upperText, readingOf}
+use Rattle.challenge.specs.Challenges.{opening, algorithm, tokenAt, endOf, countAt, seedAt, terminated, challengeOf}
+use Rattle.cards.specs.CardChecks.{countOf}
+use Rattle.cards.specs.Cards.{cardOf}
+use Rattle.cards.specs.Printed.{firstLine, keptLine, pastLine, linesAsked}
+use Rattle.line.specs.Line.{standsIn}
+use Rattle.accounts.specs.Rooms.{Room}
+use Rattle.table.specs.Table.{State, isThere, accountOf, portOf, hasTurn, turnId}
+use Rattle.table.specs.Steps.{challengeFor}
+use Rattle.reached.specs.Calls.{Call}
+use Rattle.reached.specs.Equal.{accountsIn}
+
+-- ---- what it is that an answer goes by its rows
+
+-- A refusal's number, and whether its condition holds.
+abbrev pub Row : Type 0
+Row = ℕ × Bool
+
+-- No condition of these holds.
+abbrev pub NoneHolds : List Row → Type 0
+NoneHolds rows = Each (λ (row : Row). row .1 ≡ false) rows
+
+-- The condition of n holds, and those before it don't.
+pub record FirstHolds (n : ℕ) (rows : List Row) : Type 0 where
+  pub before : List Row
+  pub after : List Row
+  pub parted : rows ≡ before ++ (n, true) ∷ after
+  pub none : NoneHolds before
+
+-- An answer with this number, 0 where it is no refusal, goes by the rows: it is the refusal n exactly if the condition of n holds and
+-- those before it don't, and no refusal exactly if no condition holds.
+pub record Exactly (number : ℕ) (rows : List Row) : Type 0 where
+  pub refused : (n : ℕ) → (n ≡ 0 → ⊥) → (number ≡ n) ↔ FirstHolds n rows
+  pub taken : (number ≡ 0) ↔ NoneHolds rows
+
+-- ---- texts and numbers
+
+-- 10 and 11: "pass-phrase under 10, over 63 bytes"
+abbrev pub phraseRows : List ℕ → List Row
+phraseRows phrase =
+    (10, ltb (length phrase) 10) ∷
+    (11, ltb 63 (length phrase)) ∷ []
+
+-- 23 and 24, "for any seed": "length 1 to 16, else 23; letters and digits only, else 24"
+abbrev pub seedRows : List ℕ → List Row
+seedRows seed =
+    (23, not (leb 1 (length seed) && leb (length seed) 16)) ∷
+    (24, not (plain seed)) ∷ []
+
+-- 40: "buffer shorter than the text to be written"
+abbrev pub roomRows : ℕ → List ℕ → List Row
+roomRows room text = (40, ltb room (length text)) ∷ []
+
+-- 20 to 25: the steps of 'Challenges'
+abbrev pub challengeRows : List ℕ → List Row
+challengeRows text =
+    (20, not (same (take 4 text) opening)) ∷
+    (21, not (same (tokenAt text 4) algorithm)) ∷
+    (22, not (isCount (tokenAt text (countAt text)))) ∷ []
+    ++ seedRows (tokenAt text (seedAt text))
+    ++ (25, not (terminated (drop (endOf text (seedAt text)) text))) ∷ []
+
+-- Where the tokens of a text stand in the dictionary, in either case; whether one does, and at which place.
+abbrev pub placesFound : List ℕ → List Found
+placesFound text = map placeOf (map upperText (tokens text))
+
+abbrev pub isKnown : Found → Bool
+isKnown (Found.At place) = true
+isKnown Found.Nothing = false
+
+abbrev pub placeIn : Found → ℕ
+placeIn (Found.At place) = place
+placeIn Found.Nothing = 0
+
+-- "the sum modulo 4 is put after the 64 bits as two bits": so it is in the 66 bits of these places.
+abbrev pub sumRight : List ℕ → Bool
+sumRight places = eqb (pairSum (joined 0 places / 4) % 4) (joined 0 places % 4)
+
+-- Each token is a word of the dictionary; the pair sum of the words is right.
+abbrev pub wordsKnown : List ℕ → Bool
+wordsKnown text = every isKnown (placesFound text)
+
+abbrev pub wordsRight : List ℕ → Bool
+wordsRight text = sumRight (map placeIn (placesFound text))
+
+-- 30 to 33: "reply over 128 bytes"; "a word not in the dictionary"; "words known, pair sum wrong"; "neither six words nor sixteen
+-- digits"
+abbrev pub replyRows : List ℕ → List Row
+replyRows text =
+    (30, ltb 128 (length text)) ∷
+    (31, sixWords (tokens text) && not (wordsKnown text)) ∷
+    (32, sixWords (tokens text) && wordsKnown text && not (wordsRight text)) ∷
+    (33, not (sixWords (tokens text)) && not (sixteenDigits (unspaced text))) ∷ []
+
+-- ---- the card
+
+-- 70: "card lines not 1 to 99 or more than the count". "Order: 10, 11, 20 to 25, 70", and 40 after these.
+abbrev pub cardRows : List ℕ → List ℕ → ℕ → List Row
+cardRows phrase challenge k =
+    phraseRows phrase
+    ++ challengeRows challenge
+    ++ (70, not (leb 1 k && leb k 99) || ltb (countOf (challengeOf challenge)) k) ∷ []
+
+-- The program `card`: "Input over 256 bytes gives 12 before anything else."
+abbrev pub programRows : List ℕ → List Row
+programRows input =
+    (12, ltb 256 (length input)) ∷
+    cardRows (firstLine input) (keptLine (pastLine input)) (linesAsked (firstLine (pastLine (pastLine input))))
+
+-- "it prints `refused`, a space, the number, a newline", or the card that the three lines ask for.
+abbrev pub refusedWith : ℕ → List ℕ
+refusedWith n = codes "refused " ++ decimalOf n ++ 10 ∷ []
+
+abbrev pub cardAsked : List ℕ → List ℕ
+cardAsked input = cardOf (firstLine input) (keptLine (pastLine input)) (linesAsked (firstLine (pastLine (pastLine input))))
+
+-- ---- the table's calls, in tables that calls make
+
+-- 51: "count not 2 to 9,999"
+abbrev pub isOutside : ℕ → Bool
+isOutside count = not (leb 2 count && leb count 9999)
+
+-- An account's new values: 51, 23, 24, and 63, "new seed equals the present one, case folded".
+abbrev pub valuesRows : ℕ → List ℕ → Room → List Row
+valuesRows count seed present =
+    (51, isOutside count) ∷ []
+    ++ seedRows seed
+    ++ (63, same (map lowerOf seed) (present .seed)) ∷ []
+
+-- Challenge, Reply and Renew: "55, 59, 60, 58". 55: "port over 3"; 58: "account used up: stored count 1".
+abbrev pub turnRows : ℕ → State → List Row
+turnRows port s =
+    (55, ltb 3 port) ∷
+    (59, not (standsIn port (s .line))) ∷
+    (60, not (hasTurn port s)) ∷
+    (58, eqb (accountOf (turnId s) s .count) 1) ∷ []
+
+-- The password that a text was read as.
+abbrev pub said : Reading → ℕ
+said (Reading.Password password) = password
+said (Reading.Refused why) = 0
+
+-- "Hash the password once": it does not equal the stored one.
+abbrev pub isWrong : List ℕ → State → Bool
+isWrong text s = not (eqb (hash Algorithm.md5 (bytesOf (said (readingOf text)))) (accountOf (turnId s) s .password))
+
+-- Two wrong replies stand in the port's run, so that one more is the third.
+abbrev pub isThird : ℕ → State → Bool
+isThird port s = eqb (portOf port s .wrong) 2
+
+-- 61 and 62: "wrong reply, third wrong in a row"
+abbrev pub wrongRows : ℕ → List ℕ → State → List Row
+wrongRows port text s =
+    (61, isWrong text s && not (isThird port s)) ∷
+    (62, isWrong text s && isThird port s) ∷ []
+
+-- "Checks run in the order given."
+abbrev pub conditionsOf : Call → State → List Row
+conditionsOf (Call.Enrol id count seed password) s =
+    (50, eqb id 0) ∷
+    (51, isOutside count) ∷ []
+    ++ seedRows seed
+    ++ (52, isThere id s) ∷
+    (53, eqb (accountsIn (s .rooms)) 32) ∷ []
+conditionsOf (Call.Remove id) s =
+    (54, not (isThere id s)) ∷ []
+conditionsOf (Call.Join port id) s =
+    (55, ltb 3 port) ∷
+    (54, not (isThere id s)) ∷
+    (56, standsIn port (s .line)) ∷
+    (57, not (eqb (portOf port s .shut) 0)) ∷
+    (58, eqb (accountOf id s .count) 1) ∷ []
+conditionsOf (Call.Leave port) s =
+    (55, ltb 3 port) ∷
+    (59, not (standsIn port (s .line))) ∷ []
+conditionsOf (Call.Challenge port room) s =
+    turnRows port s
+    ++ roomRows room (challengeFor s)
+conditionsOf (Call.Reply port text) s =
+    turnRows port s
+    ++ replyRows text
+    ++ wrongRows port text s
+conditionsOf (Call.Renew port count seed password text) s =
+    turnRows port s
+    ++ valuesRows count seed (accountOf (turnId s) s)
+    ++ replyRows text
+    ++ wrongRows port text s
+conditionsOf Call.Tick s = []

@@ -1,0 +1,207 @@
+-- The refusals of the table's calls go by their rows, in tables that calls make.
+use Prim.Native.Nat.{ℕ, _+_, _-_, _≤_}
+use native.Mathlib.Omega.{arith}
+use mathlib.Core.Path.{_≡_, refl, sym, ap, _∙_}
+use mathlib.Core.Bool.{Bool, true, false, cond, not, _&&_, Bool·not-not}
+use mathlib.Core.List.{List, [], _++_}
+use borrow.Author.Tests.{eq-eqb, ne-eqb, ltb-true, ltb-false, le-ltb, le-leb, lt-leb}
+use lib.Dec.{eqb, leb, ltb}
+use lib.ListN.{length}
+use Rattle.refusal.specs.declared.Refusal.{Refusal}
+use Rattle.refusal.specs.declared.Checked.{Checked}
+use Rattle.refusal.specs.declared.Reading.{Reading}
+use Rattle.refusal.specs.declared.Written.{Written}
+use Rattle.refusal.specs.Checks.{unless}
+use Rattle.refusal.specs.Each.{each-get}
+use Rattle.refusal.specs.Laws.{must-true}
+use Rattle.text.specs.Tests.{cases}
+use Rattle.password.specs.PhraseAndSeed.{seedChecked}
+use Rattle.password.specs.Password.{Algorithm, bytesOf, hash}
+use Rattle.challenge.specs.Challenges.{challengeWritten}
+use Rattle.reply.specs.Reply.{readingOf}
+use Rattle.line.specs.Line.{standsIn}
+use Rattle.port.specs.declared.Port.{Port}
+use Rattle.accounts.specs.Rooms.{Room, holds}
+use Rattle.accounts.specs.Accounts.{lowered, newRoom, valuesChecked}
+use Rattle.table.specs.declared.Replied.{Replied}
+use Rattle.table.specs.Table.{State, freshPort, isThere, accountOf, portOf, hasTurn, turnId}
+use Rattle.table.specs.TableChecks.{accountThere}
+use Rattle.table.specs.Steps as Steps
+use Rattle.table.specs.Steps.{After, refused, replyRefused, enrolChecked, joinChecked, leaveChecked, turnChecked, renewChecked, challengeFor}
+use Rattle.table.specs.Steps.{offered, read}
+use Rattle.reached.specs.Calls.{Call, checkedAnswer, repliedAnswer, answer, numbers}
+use Rattle.reached.specs.InTurn.{HasTurn}
+use Rattle.reached.specs.Made.{Made, PortGood}
+use Rattle.reached.specs.Equal.{times, accountsIn}
+use Rattle.reached.specs.RoomsFound.{holds-times, accounts-free}
+use Rattle.reached.specs.Outcome.{turn-good}
+use Rattle.grounds.specs.Conditions.{Row, Exactly, seedRows, valuesRows, replyRows, turnRows, said, isThird, wrongRows, conditionsOf}
+use Rattle.grounds.specs.Exactly.{listedAs, Follows, no-rows, behind, behind-test, then-check, then-test}
+use Rattle.grounds.specs.Refusing.{answerChecked, answer-exactly, readChecked, writtenChecked, seed-rows, values-rows, not-leb, room-rows, reply-rows}
+use Rattle.grounds.specs.Keeps.{account-good}
+use Rattle.grounds.specs.Owned.{turn-there}
+use Rattle.grounds.specs.Answering.{kept-seed, seed-checked}
+
+-- ---- the paper's words, in such tables
+
+-- "account used up: stored count 1"
+used-up : (count : ℕ) → 1 ≤ count → not (ltb 1 count) ≡ eqb count 1
+used-up count h =
+    cases (ltb 1 count)
+    (λ e. let more = ltb-true 1 count e in ap not e ∙ sym (ne-eqb count 1 (λ q. omega arith)))
+    (λ e. let few = ltb-false 1 count e in ap not e ∙ sym (eq-eqb count 1 (omega arith)))
+
+-- "53 is given exactly when 32 accounts are there"
+full : (rooms : List Room) → length rooms ≡ 32 → not (holds 0 rooms) ≡ eqb (accountsIn rooms) 32
+full rooms h =
+    let all = accounts-free rooms in
+    ap not (holds-times 0 rooms)
+    ∙ cases (ltb 0 (times 0 rooms))
+    (λ e. let some = ltb-true 0 (times 0 rooms) e in ap not e ∙ sym (ne-eqb (accountsIn rooms) 32 (λ q. omega arith)))
+    (λ e. let none = ltb-false 0 (times 0 rooms) e in ap not e ∙ sym (eq-eqb (accountsIn rooms) 32 (omega arith)))
+
+-- "third wrong in a row"
+third : (p : Port) → PortGood p → leb 3 (p .wrong + 1) ≡ eqb (p .wrong) 2
+third p h =
+    let most = h .0 in
+    cases (ltb (p .wrong) 2)
+    (λ e.
+    let few = ltb-true (p .wrong) 2 e in
+    lt-leb 3 (p .wrong + 1) (omega arith) ∙ sym (ne-eqb (p .wrong) 2 (λ q. omega arith)))
+    (λ e.
+    let two = ltb-false (p .wrong) 2 e in
+    le-leb 3 (p .wrong + 1) (omega arith) ∙ sym (eq-eqb (p .wrong) 2 (omega arith)))
+
+-- ---- what a call refuses
+
+abbrev settledChecked : After Checked → Checked
+settledChecked a = answerChecked (checkedAnswer (a .answer))
+
+abbrev repliedChecked : After Replied → Checked
+repliedChecked a = answerChecked (repliedAnswer (a .answer))
+
+-- ---- Enrol, Remove, Join, Leave
+
+enrol-rows : (id count : ℕ) (seed password : List ℕ) (s : State) → Made s
+    → Follows (settledChecked (Steps.enrol id count seed password s)) (conditionsOf (Call.Enrol id count seed password) s)
+unfolding Steps.enrol enrolChecked
+enrol-rows id count seed password s m =
+    behind settledChecked (refused s) (λ why. refl) _ _ (conditionsOf (Call.Enrol id count seed password) s) []
+    (then-test (not (eqb id 0)) _ Refusal.IdZero _ _ (Bool·not-not (eqb id 0))
+    (λ a. then-test (leb 2 count && leb count 9999) _ Refusal.CountOutside _ _ refl
+    (λ b. then-check (seedChecked seed) _ (seedRows seed) _ (seed-rows seed)
+    (λ c. then-test (not (isThere id s)) _ Refusal.IdTaken _ _ (Bool·not-not (isThere id s))
+    (λ d. then-test (holds 0 (s .rooms)) _ Refusal.TableFull _ _ (full (s .rooms) (m .room-count)) (λ e. no-rows Checked.Good refl))))))
+    (λ e. no-rows Checked.Good refl)
+
+remove-rows : (id : ℕ) (s : State) → Follows (settledChecked (Steps.remove id s)) (conditionsOf (Call.Remove id) s)
+unfolding Steps.remove
+remove-rows id s =
+    behind-test settledChecked (refused s) (λ why. refl) (isThere id s) _ Refusal.AccountMissing _ [] refl (λ e. no-rows Checked.Good refl)
+
+join-rows : (port id : ℕ) (s : State) → Made s → Follows (settledChecked (Steps.join port id s)) (conditionsOf (Call.Join port id) s)
+unfolding Steps.join joinChecked
+join-rows port id s m =
+    behind settledChecked (refused s) (λ why. refl) _ _ (conditionsOf (Call.Join port id) s) []
+    (then-test (leb port 3) _ Refusal.PortUnknown _ _ (not-leb port 3)
+    (λ a. then-test (isThere id s) _ Refusal.AccountMissing _ _ refl
+    (λ b. then-test (not (standsIn port (s .line))) _ Refusal.PortInLine _ _ (Bool·not-not (standsIn port (s .line)))
+    (λ c. then-test (eqb (portOf port s .shut) 0) _ Refusal.PortShut _ _ refl
+    (λ d. then-test (ltb 1 (accountOf id s .count)) _ Refusal.AccountUsedUp _ _
+    (used-up (accountOf id s .count) (account-good id s b (m .good) .count-from)) (λ e. no-rows Checked.Good refl))))))
+    (λ e. no-rows Checked.Good refl)
+
+leave-rows : (port : ℕ) (s : State) → Follows (settledChecked (Steps.leave port s)) (conditionsOf (Call.Leave port) s)
+unfolding Steps.leave leaveChecked
+leave-rows port s =
+    behind settledChecked (refused s) (λ why. refl) _ _ (conditionsOf (Call.Leave port) s) []
+    (then-test (leb port 3) _ Refusal.PortUnknown _ _ (not-leb port 3)
+    (λ a. then-test (standsIn port (s .line)) _ Refusal.PortNotInLine _ _ refl (λ b. no-rows Checked.Good refl)))
+    (λ e. no-rows Checked.Good refl)
+
+-- ---- Challenge, Reply and Renew
+
+-- No port in line meets 54.
+turn-rows : (port : ℕ) (s : State) → Made s → Follows (turnChecked port s) (turnRows port s)
+unfolding turnChecked
+turn-rows port s m =
+    then-test (leb port 3) _ Refusal.PortUnknown _ _ (not-leb port 3)
+    (λ a. then-test (standsIn port (s .line)) _ Refusal.PortNotInLine _ _ refl
+    (λ b. then-test (hasTurn port s) _ Refusal.PortNotInFront _ _ refl
+    (λ c.
+    let turn : HasTurn port (turnId s) s = record { front = c; account = refl } in
+    let there = turn-there port (turnId s) s m turn .0 in
+    let good = account-good (turnId s) s there (m .good) in
+    then-check (accountThere (turnId s) s) _ [] _ (no-rows _ (must-true Refusal.AccountMissing there))
+    (λ d. then-test (ltb 1 (accountOf (turnId s) s .count)) _ Refusal.AccountUsedUp _ _
+    (used-up (accountOf (turnId s) s .count) (good .count-from)) (λ e. no-rows Checked.Good refl)))))
+
+-- The challenge writer's own checks, 23, 24 and 13, find nothing wrong with a good account.
+challenge-rows : (port room : ℕ) (s : State) → Made s
+    → Follows (writtenChecked (Steps.challenge port room s)) (conditionsOf (Call.Challenge port room) s)
+unfolding Steps.challenge challengeWritten
+challenge-rows port room s m =
+    behind writtenChecked Written.Refused (λ why. refl) (turnChecked port s) _ (turnRows port s) _ (turn-rows port s m)
+    (λ e.
+    let seed = accountOf (turnId s) s .seed in
+    let count = accountOf (turnId s) s .count - 1 in
+    let good = account-good (turnId s) s (turn-good port s e .there) (m .good) in
+    let most = good .count-to in
+    let low : count ≤ 9999 = omega arith in
+    rw (seed-checked seed (good .seed-from) (good .seed-to) (kept-seed seed (good .seed-kept) .1), le-ltb 9999 count low)
+    (room-rows room (challengeFor s)))
+
+-- What is done with the password that a text says.
+read-rows : (s : State) (r : Reading) (next : ℕ → After Replied) (rows more : List Row) → Follows (readChecked r) rows
+    → Follows (repliedChecked (next (said r))) more → Follows (repliedChecked (read s r next)) (rows ++ more)
+read-rows s (Reading.Password w) next rows more f g =
+    behind repliedChecked (replyRefused s) (λ why. refl) Checked.Good (next w) rows more f (λ e. g)
+read-rows s (Reading.Refused why) next rows more f g =
+    behind repliedChecked (replyRefused s) (λ w. refl) (Checked.Refused why) (next 0) rows more f (λ e. g)
+
+offered-rows : (port : ℕ) (text : List ℕ) (next : Room) (s : State) → Made s
+    → Follows (repliedChecked (offered port (said (readingOf text)) next s)) (wrongRows port text s)
+unfolding Follows offered
+offered-rows port text next s m rest =
+    go (eqb (hash Algorithm.md5 (bytesOf (said (readingOf text)))) (accountOf (turnId s) s .password)) (isThird port s)
+    (third (portOf port s) (each-get PortGood (s .ports) port freshPort (m .runs) (omega arith, omega arith)))
+  where
+    go : (t u : Bool) → leb 3 (portOf port s .wrong + 1) ≡ u
+        → unless listedAs (repliedChecked (cond t (Steps.accepted port next s) (Steps.rejected port s))) rest
+        ≡ cond (not t && not u) 61 (cond (not t && u) 62 rest)
+    go true u e = refl
+    go false true e = ap (λ (b : Bool). listedAs (cond b Refusal.ReplyWrongThird Refusal.ReplyWrong)) e
+    go false false e = ap (λ (b : Bool). listedAs (cond b Refusal.ReplyWrongThird Refusal.ReplyWrong)) e
+
+call-reply-rows : (port : ℕ) (text : List ℕ) (s : State) → Made s
+    → Follows (repliedChecked (Steps.reply port text s)) (conditionsOf (Call.Reply port text) s)
+unfolding Steps.reply Steps.replyRead
+call-reply-rows port text s m =
+    behind repliedChecked (replyRefused s) (λ why. refl) (turnChecked port s) _ (turnRows port s) _ (turn-rows port s m)
+    (λ e. read-rows s (readingOf text) _ (replyRows text) _ (reply-rows text)
+    (offered-rows port text (lowered (accountOf (turnId s) s) (said (readingOf text))) s m))
+
+renew-rows : (port count : ℕ) (seed new text : List ℕ) (s : State) → Made s
+    → Follows (repliedChecked (Steps.renew port count seed new text s)) (conditionsOf (Call.Renew port count seed new text) s)
+unfolding Steps.renew Steps.renewRead renewChecked valuesChecked
+renew-rows port count seed new text s m =
+    let values = valuesRows count seed (accountOf (turnId s) s) in
+    behind repliedChecked (replyRefused s) (λ why. refl) (renewChecked port count seed s) _ (turnRows port s ++ values) _
+    (then-check (turnChecked port s) _ (turnRows port s) values (turn-rows port s m) (λ a. values-rows count seed (accountOf (turnId s) s)))
+    (λ e. read-rows s (readingOf text) _ (replyRows text) _ (reply-rows text)
+    (offered-rows port text (newRoom (accountOf (turnId s) s .id) count seed new) s m))
+
+-- ---- each call
+
+call-rows : (s : State) → Made s → (c : Call) → Follows (answerChecked (answer c s)) (conditionsOf c s)
+call-rows s m (Call.Enrol id count seed password) = enrol-rows id count seed password s m
+call-rows s m (Call.Remove id) = remove-rows id s
+call-rows s m (Call.Join port id) = join-rows port id s m
+call-rows s m (Call.Leave port) = leave-rows port s
+call-rows s m (Call.Challenge port room) = challenge-rows port room s m
+call-rows s m (Call.Reply port text) = call-reply-rows port text s m
+call-rows s m (Call.Renew port count seed new text) = renew-rows port count seed new text s m
+call-rows s m Call.Tick = no-rows Checked.Good refl
+
+pub call-exactly : (s : State) → Made s → (c : Call) → Exactly (numbers (answer c s) .0) (conditionsOf c s)
+call-exactly s m c = answer-exactly (answer c s) (conditionsOf c s) (call-rows s m c)
