@@ -14,9 +14,13 @@ use Rattle.table.specs.Table.{fresh}
 use Rattle.table.specs.Steps.{enrolChecked, enrol, joinChecked, join, tick}
 use Rattle.reached.specs.Calls.{Call, Answer, run, answers}
 
+-- A password of eight bytes.
+abbrev eight : List ℕ
+eight = 0 ∷ 0 ∷ 0 ∷ 0 ∷ 0 ∷ 0 ∷ 0 ∷ 7 ∷ []
+
 -- Account 1 with the count 99; port 0 joins for it.
 abbrev enrolled : Call
-enrolled = Call.Enrol 1 99 (codes "AValidSeed") (0 ∷ 0 ∷ 0 ∷ 0 ∷ 0 ∷ 0 ∷ 0 ∷ 7 ∷ [])
+enrolled = Call.Enrol 1 99 (codes "AValidSeed") eight
 
 abbrev ticks : ℕ → List Call
 ticks n = replicate n Call.Tick
@@ -38,6 +42,6 @@ unfolding run enrolChecked enrol joinChecked join placeOf some joined plain ever
 first-turn = refl
 
 -- "Enrolling `A Seed`: 24."
-pub spaced-seed : answers (Call.Enrol 1 99 (codes "A Seed") [] ∷ []) fresh ≡ Answer.Refused Refusal.SeedCharacter ∷ []
+pub spaced-seed : answers (Call.Enrol 1 99 (codes "A Seed") eight ∷ []) fresh ≡ Answer.Refused Refusal.SeedCharacter ∷ []
 unfolding answers enrolChecked enrol plain every codes placeOf
 spaced-seed = refl
