@@ -5,6 +5,7 @@ pub mod Few
 pub mod Moved
 pub mod Wait
 pub mod WaitFalls
+pub mod Starts
 pub mod TurnComes
 pub mod Keeps
 pub mod Owned
