@@ -13,5 +13,8 @@ pub mod Replies
 pub mod Answering
 pub mod Refusing
 pub mod Unchanged
+pub mod Never
+pub mod WrongReplies
+pub mod Full
 pub mod Given
 pub mod LongestWait
