@@ -16,5 +16,6 @@ pub mod Unchanged
 pub mod Never
 pub mod WrongReplies
 pub mod Full
+pub mod WithoutAccounts
 pub mod Given
 pub mod LongestWait
