@@ -13,10 +13,10 @@ use Rattle.table.specs.Steps.{join, challengeFor}
 use Rattle.reached.specs.Calls.{Call, after, run}
 use Rattle.reached.specs.InTurn.{Reached, ticks, quiet, quietMeanwhile, HasTurn, TurnBegins}
 use Rattle.reached.specs.Day.{Day}
-use Rattle.grounds.specs.TurnComes.{wait-ends, all-meanwhile, joined-waits, reached-run, reached-after}
+use Rattle.grounds.specs.TurnComes.{turn-starts, wait-ends, all-meanwhile, joined-waits, reached-run, reached-after}
 use Rattle.grounds.specs.Keeps.{made}
 use Rattle.grounds.specs.Owned.{call-keeps, turn-keeps, challenge-kept}
-use Rattle.grounds.specs.Answering.{day}
+use Rattle.grounds.specs.Answering.{day, day-later}
 
 -- "From a fresh table, after any calls, a port that joins successfully has its turn begin by the 180th tick, if its account
 -- isn't removed and the port only looks at its challenge meanwhile, whatever other ports do."
@@ -25,13 +25,17 @@ pub turn-begins : (s : State) → Reached s → (p i : ℕ) → join p i s .answ
     → TurnBegins p i 180 later (join p i s .state)
 turn-begins s r p i e later q t =
     let waits = joined-waits p i s (made s r .standing) e in
-    wait-ends p i later 180 (join p i s .state) (waits .0) (waits .1) q t
+    wait-ends p i later 180 (join p i s .state) (waits .0) (waits .1) (waits .2) q t
 
 -- The same where every later call is quiet.
 pub turn-begins-quiet : (s : State) → Reached s → (p i : ℕ) → join p i s .answer ≡ Checked.Good
     → (calls : List Call) → every (quiet p i) calls ≡ true → 180 ≤ ticks calls
     → TurnBegins p i 180 calls (join p i s .state)
 turn-begins-quiet s r p i e calls q t = turn-begins s r p i e calls (all-meanwhile p i calls (join p i s .state) q) t
+
+-- Whatever call gives a port its turn, on any table, the turn stands at 60 then.
+pub turn-starts-at-60 : (s : State) (c : Call) (p i : ℕ) → (HasTurn p i s → ⊥) → HasTurn p i (after c s) → after c s .line .turn ≡ 60
+turn-starts-at-60 s c p i before now = turn-starts p i c s before now
 
 -- "During that turn only its own calls change the account's count or stored password, removal aside": a call that is not the port's
 -- own, or is Challenge, and does not remove the account leaves it as it is, its seed too.
@@ -52,15 +56,26 @@ pub reply-is-accepted : (s : State) → Reached s → (p i : ℕ) → HasTurn p 
     → 1 < accountOf i s .count
     → accountOf i s .password ≡ password Algorithm.md5 phrase (accountOf i s .seed) (accountOf i s .count)
     → (buffer : List ℕ) → length (challengeFor s) ≤ length buffer
-    → Day p i phrase buffer s
+    → Day p i phrase buffer s s
 reply-is-accepted s r p i t phrase long unused stored buffer room = day p i phrase buffer s (made s r) t unused long stored room
 
 -- The turn that the first sentence gives begins in a table of which the other two speak.
 pub turn-is-reached : (s : State) → Reached s → (p i : ℕ) (calls : List Call) → Reached (run calls (join p i s .state))
 turn-is-reached s r p i calls = reached-run (join p i s .state) calls (reached-after s (Call.Join p i) r)
 
--- The challenge stays the same during the turn, so that the reply may come at any later moment of it.
+-- The challenge stays the same during the turn.
 pub challenge-stays : (s : State) → Reached s → (p i : ℕ) → HasTurn p i s
     → (during : List Call) → every (quiet p i) during ≡ true → HasTurn p i (run during s)
     → challengeFor (run during s) ≡ challengeFor s
 challenge-stays s r p i t during q u = challenge-kept p i during s (made s r) t q u
+
+-- So the reply may come at any later moment of it: the challenge is read, then others call and ticks pass, and the generator's reply to the
+-- challenge that was read before is accepted.
+pub later-reply-is-accepted : (s : State) → Reached s → (p i : ℕ) → HasTurn p i s → (phrase : List ℕ) → phraseChecked phrase ≡ Checked.Good
+    → 1 < accountOf i s .count
+    → accountOf i s .password ≡ password Algorithm.md5 phrase (accountOf i s .seed) (accountOf i s .count)
+    → (buffer : List ℕ) → length (challengeFor s) ≤ length buffer
+    → (during : List Call) → every (quiet p i) during ≡ true → HasTurn p i (run during s)
+    → Day p i phrase buffer s (run during s)
+later-reply-is-accepted s r p i t phrase long unused stored buffer room during q u =
+    day-later p i phrase buffer s (made s r) t unused long stored room during q u

@@ -1,9 +1,11 @@
--- The letter's demands as theorems: Demand1, Demand2, Demand3, with Tight, OneStep, TablesMade and Examples. Their words are in `grounds`,
--- Listed and Conditions, in `reached`, Calls, InTurn, Day and Made, and in `refusal`, Each; how they are proved is in `grounds`.
+-- The letter's demands as theorems: Demand1, Demand2, Demand3, with AfterRefusal, NoAccounts, Tight, OneStep, TablesMade and Examples. Their words
+-- are in `grounds`, Listed and Conditions, in `reached`, Calls, InTurn, Day and Made, and in `refusal`, Each; how they are proved is in `grounds`.
 pub mod Demand1
 pub mod Demand2
 pub mod Examples
 pub mod Tight
 pub mod TablesMade
+pub mod NoAccounts
+pub mod AfterRefusal
 pub mod OneStep
 pub mod Demand3

@@ -1,4 +1,4 @@
--- In a port's turn the challenge is written and read, the generator answers it, and the reply is accepted.
+-- In a port's turn the challenge is written and read, the generator answers it, and the reply is accepted, at once or later in the turn.
 use Prim.Native.Nat.{ℕ, suc, _+_, _-_, _≤_, _<_}
 use native.Mathlib.Omega.{arith}
 use mathlib.Core.Path.{_≡_, refl, sym, ap, ap₂, _∙_, subst}
@@ -30,12 +30,13 @@ use Rattle.table.specs.Table.{State, accountOf, turnId}
 use Rattle.table.specs.Steps as Steps
 use Rattle.accounts.specs.Accounts.{lowered}
 use Rattle.table.specs.Steps.{turnChecked, challengeFor, challenge}
-use Rattle.reached.specs.InTurn.{HasTurn}
+use Rattle.reached.specs.Calls.{Call, run}
+use Rattle.reached.specs.InTurn.{quiet, HasTurn}
 use Rattle.reached.specs.Outcome.{turn-good, turn-holder}
 use Rattle.reached.specs.Day.{Accepts, Day}
 use Rattle.reached.specs.Made.{isKept, Made}
-use Rattle.grounds.specs.Keeps.{account-good}
-use Rattle.grounds.specs.Owned.{turn-there}
+use Rattle.grounds.specs.Keeps.{account-good, made-run}
+use Rattle.grounds.specs.Owned.{turn-there, turn-keeps, challenge-kept}
 use Rattle.grounds.specs.Replies.{accepted-account, turn-checked, reply-accepted}
 
 -- ---- seeds as they are kept
@@ -101,7 +102,7 @@ module _ (p : ℕ) (phrase : List ℕ) (s : State) (checked : turnChecked p s �
 module _ (p : ℕ) (phrase buffer : List ℕ) (s : State) (m : Made s) (t : HasTurn p (turnId s) s) where
   turn-day : 1 < accountOf (turnId s) s .count → phraseChecked phrase ≡ Checked.Good
       → accountOf (turnId s) s .password ≡ password Algorithm.md5 phrase (accountOf (turnId s) s .seed) (accountOf (turnId s) s .count)
-      → length (challengeFor s) ≤ length buffer → Day p (turnId s) phrase buffer s
+      → length (challengeFor s) ≤ length buffer → Day p (turnId s) phrase buffer s s
   unfolding challenge challengeWritten
   turn-day unused long stored room =
       let facts = turn-there p (turnId s) s m t in
@@ -139,9 +140,49 @@ module _ (p : ℕ) (phrase buffer : List ℕ) (s : State) (m : Made s) (t : HasT
 
 pub day : (p i : ℕ) (phrase buffer : List ℕ) (s : State) → Made s → HasTurn p i s → 1 < accountOf i s .count → phraseChecked phrase ≡ Checked.Good
     → accountOf i s .password ≡ password Algorithm.md5 phrase (accountOf i s .seed) (accountOf i s .count)
-    → length (challengeFor s) ≤ length buffer → Day p i phrase buffer s
+    → length (challengeFor s) ≤ length buffer → Day p i phrase buffer s s
 day p i phrase buffer s m t =
     subst (λ (j : ℕ). 1 < accountOf j s .count → phraseChecked phrase ≡ Checked.Good
     → accountOf j s .password ≡ password Algorithm.md5 phrase (accountOf j s .seed) (accountOf j s .count)
-    → length (challengeFor s) ≤ length buffer → Day p j phrase buffer s) (t .account)
+    → length (challengeFor s) ≤ length buffer → Day p j phrase buffer s s) (t .account)
     (turn-day p phrase buffer s m (record { front = t .front; account = refl }))
+
+-- ---- the challenge now, the reply later
+
+-- A challenge that was read is answered by what answers the one that would be read later, if the account is the same.
+day-then : (p i : ℕ) (phrase buffer : List ℕ) (s t : State) → accountOf i t ≡ accountOf i s → Day p i phrase buffer s s → Day p i phrase buffer t t
+    → Day p i phrase buffer s t
+day-then p i phrase buffer s t same now next =
+    let counts : next .count ≡ now .count = omega (arith, now .count-less, next .count-less, ap (λ (room : Room). room .count) same) in
+    let one : next .generated-as ≡ now .generated-as =
+    next .generated-is ∙ ap₂ (password Algorithm.md5 phrase) (ap (λ (room : Room). room .seed) same) counts ∙ sym (now .generated-is) in
+    let accepts : (text : ℕ → List ℕ) → Accepts p i (text (next .generated-as)) (next .count) (next .generated-as) t
+    → Accepts p i (text (now .generated-as)) (now .count) (now .generated-as) t =
+    λ text a. subst (λ (n : ℕ). Accepts p i (text (now .generated-as)) n (now .generated-as) t) counts
+    (subst (λ (w : ℕ). Accepts p i (text w) (next .count) w t) one a) in
+    record {
+      written = now .written;
+      count = now .count;
+      start = now .start;
+      len = now .len;
+      used = now .used;
+      generated-as = now .generated-as;
+      challenge-written = now .challenge-written;
+      challenge-read = now .challenge-read;
+      password-generated = now .password-generated;
+      count-less = now .count-less;
+      generated-is = now .generated-is;
+      hex-accepted = accepts hexOf (next .hex-accepted);
+      words-accepted = accepts wordsOf (next .words-accepted);
+    }
+
+pub day-later : (p i : ℕ) (phrase buffer : List ℕ) (s : State) → Made s → HasTurn p i s → 1 < accountOf i s .count → phraseChecked phrase ≡ Checked.Good
+    → accountOf i s .password ≡ password Algorithm.md5 phrase (accountOf i s .seed) (accountOf i s .count)
+    → length (challengeFor s) ≤ length buffer
+    → (during : List Call) → every (quiet p i) during ≡ true → HasTurn p i (run during s) → Day p i phrase buffer s (run during s)
+day-later p i phrase buffer s m t unused long stored room during q u =
+    let same = turn-keeps p i during s m t q u in
+    day-then p i phrase buffer s (run during s) same (day p i phrase buffer s m t unused long stored room)
+    (day p i phrase buffer (run during s) (made-run during s m) u (subst (λ (r : Room). 1 < r .count) (sym same) unused) long
+    (subst (λ (r : Room). r .password ≡ password Algorithm.md5 phrase (r .seed) (r .count)) (sym same) stored)
+    (subst (λ (text : List ℕ). length text ≤ length buffer) (sym (challenge-kept p i during s m t q u)) room))

@@ -15,6 +15,15 @@ use Rattle.text.specs.Tests.{every, both}
 use Rattle.grounds.specs.Listed.{isIn, listed}
 use Rattle.grounds.specs.Conditions.{Row, NoneHolds, FirstHolds, Exactly}
 
+-- ---- rows
+
+-- The refusals of rows whose numbers are at most m are at most m.
+pub first-at-most : (m n : ℕ) (before after : List Row) → every (λ (row : Row). leb (row .0) m) (before ++ (n, true) ∷ after) ≡ true → n ≤ m
+unfolding every
+first-at-most m n [] after h = leb-true n m (both (leb n m) (every (λ (row : Row). leb (row .0) m) after) h .0)
+first-at-most m n (row ∷ before) after h =
+    first-at-most m n before after (both (leb (row .0) m) (every (λ (r : Row). leb (r .0) m) (before ++ (n, true) ∷ after)) h .1)
+
 -- ---- the list
 
 pub refusal-listed : (why : Refusal) → isIn (listingOf why .0) listed ≡ true

@@ -103,6 +103,10 @@ writer-given : Each Given (40 ∷ [])
 unfolding digitsOf
 writer-given = (Given.hex 0 15 refl, tt)
 
+-- A password of eight bytes.
+abbrev pub eight : List ℕ
+eight = 0 ∷ 1 ∷ 2 ∷ 3 ∷ 4 ∷ 5 ∷ 6 ∷ 7 ∷ []
+
 -- Account 1 with the count 2, whose next password is 0.
 abbrev pub enrolled : Call
 enrolled = Call.Enrol 1 2 (codes "a") (bytesOf (hash Algorithm.md5 (bytesOf 0)))
@@ -118,7 +122,7 @@ abbrev pub wrong : Call
 wrong = Call.Reply 0 (hexOf 1)
 
 abbrev pub thirtyTwo : List Call
-thirtyTwo = map (λ id. Call.Enrol id 2 (codes "a") []) (upTo 32 (λ k. suc k))
+thirtyTwo = map (λ id. Call.Enrol id 2 (codes "a") eight) (upTo 32 (λ k. suc k))
 
 -- 50 to 63: the table
 table-given : Each Given (50 ∷ 51 ∷ 52 ∷ 53 ∷ 54 ∷ 55 ∷ 56 ∷ 57 ∷ 58 ∷ 59 ∷ 60 ∷ 61 ∷ 62 ∷ 63 ∷ [])
@@ -127,13 +131,13 @@ unfolding callNumber codes plain same run enrol enrolChecked remove joinChecked 
     sixteenDigits hexReading every parted unspaced digitsOf Digits.numberAfter hash fold numberAfter md5 registers absorbed
     compressed rounds performed operation round1 round2 round3 round4 blockAt paddedWord paddedByte upTo
 table-given = (
-  Given.call [] (Call.Enrol 0 2 (codes "a") []) refl,
+  Given.call [] (Call.Enrol 0 2 (codes "a") eight) refl,
   (
-    Given.call [] (Call.Enrol 1 1 (codes "a") []) refl,
+    Given.call [] (Call.Enrol 1 1 (codes "a") eight) refl,
     (
       Given.call (enrolled ∷ []) enrolled refl,
       (
-        Given.call thirtyTwo (Call.Enrol 33 2 (codes "a") []) refl,
+        Given.call thirtyTwo (Call.Enrol 33 2 (codes "a") eight) refl,
         (
           Given.call [] (Call.Remove 1) refl,
           (
@@ -152,7 +156,7 @@ table-given = (
                         Given.call (enrolled ∷ joins ∷ []) wrong refl,
                         (
                           Given.call (enrolled ∷ joins ∷ wrong ∷ joins ∷ wrong ∷ joins ∷ []) wrong refl,
-                          (Given.call (enrolled ∷ joins ∷ []) (Call.Renew 0 9 (codes "A") [] (hexOf 0)) refl, tt),
+                          (Given.call (enrolled ∷ joins ∷ []) (Call.Renew 0 9 (codes "A") eight (hexOf 0)) refl, tt),
                         ),
                       ),
                     ),

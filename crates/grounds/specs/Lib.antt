@@ -6,6 +6,7 @@ pub mod Few
 pub mod Moved
 pub mod Wait
 pub mod WaitFalls
+pub mod Starts
 pub mod TurnComes
 pub mod Keeps
 pub mod Owned
@@ -16,5 +17,9 @@ pub mod Refusing
 pub mod RefusingCalls
 pub mod CardProgram
 pub mod Unchanged
+pub mod Never
+pub mod WrongReplies
+pub mod Full
+pub mod WithoutAccounts
 pub mod Given
 pub mod LongestWait

@@ -7,12 +7,12 @@ use mathlib.Core.List.{List, [], _∷_}
 use lib.Dec.{eqb}
 use Rattle.refusal.specs.declared.Reading.{Reading}
 use Rattle.refusal.specs.declared.Written.{Written}
-use Rattle.refusal.specs.Numbers.{listingOf}
+use Rattle.refusal.specs.Numbers.{readingNumbers, writtenNumbers}
 use Rattle.challenge.specs.declared.reading.Challenge.{Challenge}
 use Rattle.text.specs.Put.{writtenOf}
 use Rattle.md5.specs.Digest.{digestOf}
 use Rattle.password.specs.Password.{Algorithm, generated}
-use Rattle.challenge.specs.Challenges.{challengeOf}
+use Rattle.challenge.specs.Challenges.{challengeOf, challengeNumbers}
 use Rattle.reply.specs.Reply.{readingOf}
 use Rattle.hex.specs.Hex.{hexOf}
 use Rattle.cards.specs.Cards.{cardWritten}
@@ -33,20 +33,17 @@ listed =
 -- ---- the number of an answer, 0 where it is no refusal
 
 abbrev pub readNumber : Reading → ℕ
-readNumber (Reading.Password password) = 0
-readNumber (Reading.Refused why) = listingOf why .0
+readNumber reading = readingNumbers reading .0 .0
 
 abbrev pub writtenNumber : Written → ℕ
-writtenNumber (Written.Wrote n) = 0
-writtenNumber (Written.Refused why) = listingOf why .0
+writtenNumber written = writtenNumbers written .0 .0
 
 abbrev pub challengeNumber : Challenge → ℕ
-challengeNumber (Challenge.Read count start len used) = 0
-challengeNumber (Challenge.Refused why) = listingOf why .0
+challengeNumber challenge = challengeNumbers challenge .0 .0
 
 -- The number that the call answers after the others, from the fresh table.
 unfoldable pub callNumber : List Call → Call → ℕ
-callNumber before c = numbers (answer c (run before fresh)) .0
+callNumber before c = numbers (answer c (run before fresh)) .0 .0
 
 -- The number n is the answer of some call: of the generator, the digest, the challenge reader, the reply's reader, the hex writer, the
 -- card writer, or the table.

@@ -4,7 +4,7 @@ use mathlib.Core.Path.{_≡_, refl, sym, ap, _∙_, subst}
 use mathlib.Core.Bool.{Bool, true, false, true≢false, cond}
 use mathlib.Core.List.{List, [], _∷_, _++_}
 use mathlib.Core.Logic.{_⊎_, inl, inr}
-use borrow.Author.Tests.{eqb-true, eqb-false, eq-eqb}
+use borrow.Author.Tests.{eqb-true, eqb-false}
 use lib.Dec.{eqb, ltb}
 use lib.ListN.{length}
 use Rattle.text.specs.Tests.{every, either, both}
@@ -25,7 +25,7 @@ use Rattle.reached.specs.Outcome.{Outcome, outcome}
 use Rattle.grounds.specs.Standing.{none-others, none-append}
 use Rattle.grounds.specs.Moved.{Moved, moved}
 use Rattle.grounds.specs.WaitFalls.{isPlace, leads, place-is}
-use Rattle.grounds.specs.TurnComes.{leads-turn, turn-leads}
+use Rattle.grounds.specs.TurnComes.{leads-turn, has-leads}
 use Rattle.reached.specs.Made.{Made}
 use Rattle.grounds.specs.Keeps.{made-after, made-run}
 
@@ -135,9 +135,6 @@ out-run p i [] s q h = h
 out-run p i (c ∷ cs) s q h =
     let halves = both (quiet p i c) (every (quiet p i) cs) q in
     out-run p i cs (after c s) (halves .1) (stays-out p i c (s .line) (moved c s (outcome c s)) (halves .0) h)
-
-has-leads : (p i : ℕ) (s : State) → HasTurn p i s → leads (isPlace p i) (s .line .places) ≡ true
-has-leads p i s t = sym (turn-leads p i s) ∙ rw (t .front, eq-eqb (turnId s) i (t .account))
 
 -- From a moment of the turn to a later one of the same turn the account is as it was.
 pub turn-keeps : (p i : ℕ) (calls : List Call) (s : State) → Made s → HasTurn p i s → every (quiet p i) calls ≡ true → HasTurn p i (run calls s)

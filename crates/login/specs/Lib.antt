@@ -1,3 +1,2 @@
--- What a table with no account answers, and helper definitions of private functions.
-pub mod Empty
+-- Helper definitions of private functions.
 pub mod Inside

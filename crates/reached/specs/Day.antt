@@ -1,8 +1,10 @@
--- The words of the day of one password: a reply that steps an account down, a reply that is accepted, and the way from the challenge to it.
+-- The words of the day of one password: a reply that steps an account down, a reply that is accepted, the way from the challenge to it,
+-- and a wrong reply.
 use Prim.Native.Nat.{ℕ, _+_}
 use mathlib.Core.Path.{_≡_}
 use mathlib.Core.List.{List}
-use lib.ListN.{length, take}
+use lib.ListN.{length, take, set}
+use Rattle.refusal.specs.declared.Refusal.{Refusal}
 use Rattle.refusal.specs.declared.Reading.{Reading}
 use Rattle.refusal.specs.declared.Written.{Written}
 use Rattle.text.specs.Put.{leaves}
@@ -11,10 +13,13 @@ use Rattle.challenge.specs.declared.reading.Challenge.{Challenge}
 use Rattle.challenge.specs.Challenges.{challengeOf, seedOf}
 use Rattle.hex.specs.Hex.{hexOf}
 use Rattle.sixwords.specs.Spelling.{wordsOf}
+use Rattle.line.specs.Line as Line
+use Rattle.port.specs.Port.{wrongly, wrongAnswer}
 use Rattle.table.specs.declared.Replied.{Replied}
 use Rattle.accounts.specs.Rooms.{Room}
-use Rattle.table.specs.Table.{State, accountOf}
+use Rattle.table.specs.Table.{State, accountOf, portOf}
 use Rattle.table.specs.Steps.{challengeFor, challenge, reply}
+use Rattle.reached.specs.Calls.{Call, after}
 
 -- The account after an accepted reply, beside the one before: the same id and seed, the count lower by 1, and the password whose
 -- hash is the one that was stored.
@@ -30,10 +35,10 @@ pub record Accepts (p i : ℕ) (text : List ℕ) (count new : ℕ) (s : State) :
   pub answered : reply p text s .answer ≡ Replied.Accepted count
   pub kept : accountOf i (reply p text s .state) ≡ record { id = i; seed = accountOf i s .seed; count = count; password = new }
 
--- Challenge writes a text into the buffer; read, it gives a count and a seed; with them and the pass-phrase the generator gives a
--- password; and the reply with it, in hex or in words, is accepted. The count is the stored one less 1, and
--- the account has then what the pass-phrase gives at it.
-pub record Day (p i : ℕ) (phrase buffer : List ℕ) (s : State) : Type 0 where
+-- Challenge, in the table s, writes a text into the buffer; read, it gives a count and a seed; with them and the pass-phrase the
+-- generator gives a password; and the reply with it, in hex or in words, is accepted in the table t, the same or a later one. The count
+-- is the stored one less 1, and the account has then what the pass-phrase gives at it.
+pub record Day (p i : ℕ) (phrase buffer : List ℕ) (s t : State) : Type 0 where
   pub written : ℕ
   pub count : ℕ
   pub start : ℕ
@@ -47,5 +52,18 @@ pub record Day (p i : ℕ) (phrase buffer : List ℕ) (s : State) : Type 0 where
       ≡ Reading.Password generated-as
   pub count-less : count + 1 ≡ accountOf i s .count
   pub generated-is : generated-as ≡ password Algorithm.md5 phrase (accountOf i s .seed) count
-  pub hex-accepted : Accepts p i (hexOf generated-as) count generated-as s
-  pub words-accepted : Accepts p i (wordsOf generated-as) count generated-as s
+  pub hex-accepted : Accepts p i (hexOf generated-as) count generated-as t
+  pub words-accepted : Accepts p i (wordsOf generated-as) count generated-as t
+
+-- The port presents a password with the call.
+pub data Presents (port : ℕ) : Call → Type 0 where
+  by-reply : (text : List ℕ) → Presents port (Call.Reply port text)
+  by-renew : (count : ℕ) (seed new text : List ℕ) → Presents port (Call.Renew port count seed new text)
+
+-- A wrong reply, which is answered with that refusal: 61, or 62 at the third in a row. It changes the port's own record, and the port leaves;
+-- the accounts and the other ports' records are as they were.
+pub record WrongReply (why : Refusal) (c : Call) (s : State) : Type 0 where
+  pub port : ℕ
+  pub presented : Presents port c
+  pub answered : why ≡ wrongAnswer (portOf port s)
+  pub changed : after c s ≡ record { rooms = s .rooms; ports = set (s .ports) port (wrongly (portOf port s)); line = Line.left port (s .line) }

@@ -13,9 +13,13 @@ use Rattle.table.specs.Table.{fresh}
 use Rattle.table.specs.Steps.{enrolChecked, enrol, joinChecked, join, tick}
 use Rattle.reached.specs.Calls.{Call, run, answers, numbers}
 
+-- A password of eight bytes.
+abbrev eight : List ℕ
+eight = 0 ∷ 0 ∷ 0 ∷ 0 ∷ 0 ∷ 0 ∷ 0 ∷ 7 ∷ []
+
 -- Account 1 with the count 99; port 0 joins for it.
 abbrev enrolled : Call
-enrolled = Call.Enrol 1 99 (codes "AValidSeed") (0 ∷ 0 ∷ 0 ∷ 0 ∷ 0 ∷ 0 ∷ 0 ∷ 7 ∷ [])
+enrolled = Call.Enrol 1 99 (codes "AValidSeed") eight
 
 abbrev ticks : ℕ → List Call
 ticks n = replicate n Call.Tick
@@ -37,6 +41,6 @@ unfolding run enrolChecked enrol joinChecked join placeOf some joined plain ever
 first-turn = refl
 
 -- "Enrolling `A Seed`: 24."
-pub spaced-seed : map numbers (answers (Call.Enrol 1 99 (codes "A Seed") (0 ∷ 0 ∷ 0 ∷ 0 ∷ 0 ∷ 0 ∷ 0 ∷ 7 ∷ []) ∷ []) fresh) ≡ (record { 0 = 24; 1 = 0 }, 0) ∷ []
+pub spaced-seed : map numbers (answers (Call.Enrol 1 99 (codes "A Seed") eight ∷ []) fresh) ≡ (record { 0 = 24; 1 = 0 }, 0) ∷ []
 unfolding answers enrolChecked enrol plain every codes placeOf
 spaced-seed = refl

@@ -51,10 +51,11 @@ pub record HasTurn (p i : ℕ) (s : State) : Type 0 where
   pub account : turnId s ≡ i
 
 -- "has its turn begin by the 180th tick": along the calls, from the table s, there is a moment after at most `limit` ticks at
--- which p has the turn for i.
+-- which p has the turn for i, with all of its 60 ticks.
 pub record TurnBegins (p i limit : ℕ) (calls : List Call) (s : State) : Type 0 where
   pub early : List Call
   pub late : List Call
   pub parted : calls ≡ early ++ late
   pub soon : ticks early ≤ limit
   pub turn : HasTurn p i (run early s)
+  pub whole : run early s .line .turn ≡ 60

@@ -1,0 +1,72 @@
+-- When Enrol is refused for want of a room, and that a removed account's room is used again.
+use Prim.Native.Nat.{ℕ}
+use native.Mathlib.Omega.{arith}
+use mathlib.Core.Path.{_≡_, refl, sym, ap₂, _∙_}
+use mathlib.Core.Logic.{_↔_}
+use mathlib.Core.Bool.{true, not, _&&_}
+use mathlib.Core.List.{List, [], _∷_}
+use lib.Dec.{eqb, leb}
+use Rattle.refusal.specs.declared.Refusal.{Refusal}
+use Rattle.refusal.specs.declared.Checked.{Checked}
+use Rattle.refusal.specs.Checks.{unless, inOrder}
+use Rattle.refusal.specs.Laws.{must-good, in-parts}
+use Rattle.password.specs.PhraseAndSeed.{seedChecked}
+use Rattle.accounts.specs.Accounts.{countWithin}
+use Rattle.table.specs.Table.{State, isThere}
+use Rattle.table.specs.TableChecks.{idGiven, idNew, roomLeft, accountThere}
+use Rattle.table.specs.Steps.{refused, done, enrolChecked, enrol, remove}
+use Rattle.reached.specs.Equal.{accountsIn, Housed}
+use Rattle.reached.specs.Laws.{full-exactly, removed-room-left}
+use Rattle.reached.specs.Made.{Made}
+use Rattle.reached.specs.RoomsFound.{apart-once}
+use Rattle.grounds.specs.Never.{test, ofSeed, rows-never}
+
+pub housed : (s : State) → Made s → Housed s
+housed s m = record { all = m .room-count; once = apart-once (s .rooms) (m .apart) }
+
+-- What a call answers that is done if its checks find nothing wrong.
+pub settled-answer : (s s′ : State) (check : Checked) → unless (refused s) check (done s′) .answer ≡ check
+settled-answer s s′ Checked.Good = refl
+settled-answer s s′ (Checked.Refused why) = refl
+
+module _ (id count : ℕ) (seed password : List ℕ) (s : State) where
+  -- The checks before 53, and then whether there is a room.
+  abbrev before : List Checked
+  before = idGiven id ∷ countWithin count ∷ seedChecked seed ∷ idNew id s ∷ []
+
+  enrol-answer : enrol id count seed password s .answer ≡ unless Checked.Refused (inOrder before) (inOrder (roomLeft s ∷ []))
+  unfolding enrol enrolChecked
+  enrol-answer = settled-answer s _ (enrolChecked id count seed s) ∙ sym (in-parts before (roomLeft s ∷ []))
+
+  other-checks : inOrder before ≡ Checked.Refused Refusal.TableFull → ⊥
+  other-checks =
+      rows-never (53 ∷ []) Refusal.TableFull refl (test (not (eqb id 0)) Refusal.IdZero ∷ test (leb 2 count && leb count 9999) Refusal.CountOutside
+      ∷ ofSeed seed ∷ test (not (isThere id s)) Refusal.IdTaken ∷ []) refl
+
+  pub enrol-full : Housed s
+      → (enrol id count seed password s .answer ≡ Checked.Refused Refusal.TableFull)
+      ↔ ((inOrder before ≡ Checked.Good) × (accountsIn (s .rooms) ≡ 32))
+  enrol-full h = (
+    λ e. let parts = go (inOrder before) (roomLeft s) other-checks (sym enrol-answer ∙ e) in (parts .0, full-exactly s h .0 (parts .1)),
+    λ p.
+        enrol-answer ∙ ap₂ (λ (j k : Checked). unless Checked.Refused j (inOrder (k ∷ []))) (p .0) (full-exactly s h .1 (p .1)),
+  )
+    where
+      go : (j k : Checked) → (j ≡ Checked.Refused Refusal.TableFull → ⊥) → unless Checked.Refused j (inOrder (k ∷ [])) ≡ Checked.Refused Refusal.TableFull
+          → (j ≡ Checked.Good) × (k ≡ Checked.Refused Refusal.TableFull)
+      go Checked.Good Checked.Good n e = let z : _≡_ {A = ℕ} 0 1 = cc in absurd (omega arith)
+      go Checked.Good (Checked.Refused why) n e = (refl, e)
+      go (Checked.Refused why) k n e = absurd (n e)
+
+  pub enrol-taken : inOrder before ≡ Checked.Good → roomLeft s ≡ Checked.Good → enrol id count seed password s .answer ≡ Checked.Good
+  enrol-taken e f = enrol-answer ∙ ap₂ (λ (j k : Checked). unless Checked.Refused j (inOrder (k ∷ []))) e f
+
+removed-there : (id : ℕ) (s : State) → remove id s .answer ≡ Checked.Good → isThere id s ≡ true
+unfolding remove
+removed-there id s e = must-good (isThere id s) Refusal.AccountMissing (sym (settled-answer s _ (accountThere id s)) ∙ e)
+
+pub removed-room-used : (gone : ℕ) (s : State) → Housed s → remove gone s .answer ≡ Checked.Good → (id count : ℕ) (seed password : List ℕ)
+    → inOrder (idGiven id ∷ countWithin count ∷ seedChecked seed ∷ idNew id (remove gone s .state) ∷ []) ≡ Checked.Good
+    → enrol id count seed password (remove gone s .state) .answer ≡ Checked.Good
+removed-room-used gone s h e id count seed password good =
+    enrol-taken id count seed password (remove gone s .state) good (removed-room-left gone s h (removed-there gone s e))

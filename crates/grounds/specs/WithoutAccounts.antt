@@ -1,0 +1,215 @@
+-- What each call answers in a table with no account, and what it leaves.
+use Prim.Native.Nat.{ℕ, suc}
+use native.Mathlib.Omega.{arith}
+use native.Mathlib.Decide.{ℕ-discrete}
+use native.Mathlib.Nat.{le-refl}
+use mathlib.Core.Path.{_≡_, refl, sym, ap, ap₂, _∙_}
+use mathlib.Core.Bool.{Bool, true, false, true≢false, cond, not}
+use mathlib.Core.List.{List, [], _∷_, _++_, map}
+use borrow.Author.Tests.{eqb-true, eq-eqb, ne-eqb, le-ltb, lt-ltb}
+use lib.Dec.{eqb}
+use lib.ListN.{length}
+use Rattle.refusal.specs.declared.Refusal.{Refusal}
+use Rattle.refusal.specs.declared.Checked.{Checked}
+use Rattle.refusal.specs.declared.Written.{Written}
+use Rattle.refusal.specs.Checks.{must, unless, inOrder}
+use Rattle.refusal.specs.Each.{Each}
+use Rattle.password.specs.PhraseAndSeed.{seedChecked}
+use Rattle.line.specs.declared.Place.{Place}
+use Rattle.line.specs.Line.{Waiting, ofPort, some, first}
+use Rattle.line.specs.Laws.{ticked-none}
+use Rattle.port.specs.Port.{cooled}
+use Rattle.accounts.specs.Rooms.{Room, placeOf, holds}
+use Rattle.accounts.specs.Accounts.{countWithin, newRoom}
+use Rattle.table.specs.declared.Replied.{Replied}
+use Rattle.table.specs.Table.{State, isThere, turnId, withRoom}
+use Rattle.table.specs.TableChecks.{idGiven, accountThere, portKnown, notInLine, portOpen, notUsedUp, inLine, inFront, seedNew}
+use Rattle.table.specs.Steps as Steps
+use Rattle.table.specs.Steps.{After, refused, replyRefused, done, enrolChecked, joinChecked, leaveChecked, turnChecked, renewChecked}
+use Rattle.reached.specs.Calls.{Call, checkedAnswer, repliedAnswer, writtenAnswer, answer, after}
+use Rattle.reached.specs.Equal.{accountsIn}
+use Rattle.reached.specs.Made.{Made}
+use Rattle.grounds.specs.Full.{settled-answer}
+
+-- ---- no id is there, and the first room is free
+
+Free : Room → Type 0
+Free room = room .id ≡ 0
+
+all-free : (rooms : List Room) → accountsIn rooms ≡ 0 → Each Free rooms
+unfolding accountsIn Free
+all-free [] e = tt
+all-free (room ∷ rooms) e = go (eqb (room .id) 0) refl e (all-free rooms)
+  where
+    go : (t : Bool) → eqb (room .id) 0 ≡ t → cond t (accountsIn rooms) (suc (accountsIn rooms)) ≡ 0 → (accountsIn rooms ≡ 0 → Each Free rooms)
+        → Each Free (room ∷ rooms)
+    go true f e ih = (eqb-true (room .id) 0 f, ih e)
+    go false f e ih = absurd (omega arith)
+
+nowhere : (id : ℕ) → (id ≡ 0 → ⊥) → (rooms : List Room) → Each Free rooms → placeOf id rooms ≡ length rooms
+unfolding placeOf Free
+nowhere id n [] h = refl
+nowhere id n (room ∷ rooms) h = rw (ne-eqb (room .id) id (λ e. n (sym e ∙ h .0))) (ap suc (nowhere id n rooms (h .1)))
+
+first-free : (rooms : List Room) → length rooms ≡ 32 → Each Free rooms → (placeOf 0 rooms ≡ 0) × (holds 0 rooms ≡ true)
+unfolding placeOf Free
+first-free [] e h = absurd (omega arith)
+first-free (room ∷ rooms) e h = rw (eq-eqb (room .id) 0 (h .0)) (refl, lt-ltb 0 (suc (length rooms)) (omega arith))
+
+-- ---- behind checks that refuse
+
+-- The call answers as the checks do, and the table is as it was.
+abbrev pub OnlyAnswers : Call → State → Checked → Type 0
+OnlyAnswers c s check = (answer c s ≡ checkedAnswer check) × (after c s ≡ s)
+
+settled-refused : (s s′ : State) (check found : Checked) → check ≡ found → (found ≡ Checked.Good → ⊥)
+    → (checkedAnswer (unless (refused s) check (done s′) .answer) ≡ checkedAnswer found) × (unless (refused s) check (done s′) .state ≡ s)
+settled-refused s s′ Checked.Good found e n = absurd (n (sym e))
+settled-refused s s′ (Checked.Refused why) found e n = (ap checkedAnswer e, refl)
+
+replied-refused : (s : State) (next : After Replied) (check found : Checked) → check ≡ found → (found ≡ Checked.Good → ⊥)
+    → (repliedAnswer (unless (replyRefused s) check next .answer) ≡ checkedAnswer found) × (unless (replyRefused s) check next .state ≡ s)
+replied-refused s next Checked.Good found e n = absurd (n (sym e))
+replied-refused s next (Checked.Refused why) found e n = (ap checkedAnswer e, refl)
+
+written-refused : (next : Written) (check found : Checked) → check ≡ found → (found ≡ Checked.Good → ⊥)
+    → writtenAnswer (unless Written.Refused check next) ≡ checkedAnswer found
+written-refused next Checked.Good found e n = absurd (n (sym e))
+written-refused next (Checked.Refused why) found e n = ap checkedAnswer e
+
+not-good : {why : Refusal} → Checked.Refused why ≡ Checked.Good → ⊥
+not-good e = let z : _≡_ {A = ℕ} 0 1 = cc in omega arith
+
+-- Checks with such a one at their end refuse.
+ends-refused : (checks : List Checked) (why : Refusal) → inOrder (checks ++ Checked.Refused why ∷ []) ≡ Checked.Good → ⊥
+ends-refused [] why e = not-good e
+ends-refused (Checked.Good ∷ checks) why e = ends-refused checks why e
+ends-refused (Checked.Refused w ∷ checks) why e = not-good e
+
+-- ---- the calls, on any such table
+
+-- 54, and 59: what is found where there is no account, and nobody in line.
+abbrev pub missing : Checked
+missing = Checked.Refused Refusal.AccountMissing
+
+abbrev pub outside : Checked
+outside = Checked.Refused Refusal.PortNotInLine
+
+-- Enrol's own checks: 50, 51, 23, 24.
+abbrev pub ownChecks : ℕ → ℕ → List ℕ → Checked
+ownChecks id count seed = inOrder (idGiven id ∷ countWithin count ∷ seedChecked seed ∷ [])
+
+-- A turn's, where the account that the front waits for isn't there: 55, 59, 60, 54.
+abbrev pub inTurn : ℕ → State → Checked
+inTurn port s = inOrder (portKnown port ∷ inLine port s ∷ inFront port s ∷ missing ∷ [])
+
+module _ (s : State) (none : accountsIn (s .rooms) ≡ 0) where
+  not-there : (id : ℕ) → isThere id s ≡ false
+  not-there id = go (ℕ-discrete id 0)
+    where
+      go : Dec (id ≡ 0) → isThere id s ≡ false
+      go (yes e) = rw (eq-eqb id 0 e)
+      go (no n) = rw (ne-eqb id 0 n, nowhere id n (s .rooms) (all-free (s .rooms) none)) (le-ltb (length (s .rooms)) (length (s .rooms)) (le-refl _))
+
+  -- No id is taken, and the first room is free.
+  pub enrol-first : length (s .rooms) ≡ 32 → (id count : ℕ) (seed password : List ℕ)
+      → (answer (Call.Enrol id count seed password) s ≡ checkedAnswer (ownChecks id count seed))
+      × (after (Call.Enrol id count seed password) s
+      ≡ unless (λ why. s) (ownChecks id count seed) (withRoom 0 (newRoom id count seed password) s))
+  unfolding Steps.enrol enrolChecked
+  enrol-first rooms id count seed password =
+      let vacant = first-free (s .rooms) rooms (all-free (s .rooms) none) in
+      let checked : enrolChecked id count seed s ≡ ownChecks id count seed =
+      ap₂ (λ (taken room : Bool).
+      inOrder (idGiven id ∷ countWithin count ∷ seedChecked seed ∷ must (not taken) Refusal.IdTaken ∷ must room Refusal.TableFull ∷ []))
+      (not-there id) (vacant .1) in
+      let did = go (enrolChecked id count seed s) (placeOf 0 (s .rooms)) in (
+        did .0 ∙ ap checkedAnswer checked,
+        did .1 ∙ ap₂ (λ (k : Checked) (place : ℕ). unless (λ why. s) k (withRoom place (newRoom id count seed password) s)) checked (vacant .0),
+      )
+    where
+      go : (k : Checked) (place : ℕ)
+          → (checkedAnswer (unless (refused s) k (done (withRoom place (newRoom id count seed password) s)) .answer) ≡ checkedAnswer k)
+          × (unless (refused s) k (done (withRoom place (newRoom id count seed password) s)) .state
+          ≡ unless (λ why. s) k (withRoom place (newRoom id count seed password) s))
+      go Checked.Good place = (refl, refl)
+      go (Checked.Refused why) place = (refl, refl)
+
+  pub remove-nobody : (id : ℕ) → OnlyAnswers (Call.Remove id) s missing
+  unfolding Steps.remove
+  remove-nobody id =
+      settled-refused s _ (accountThere id s) missing (ap (λ (there : Bool). must there Refusal.AccountMissing) (not-there id)) not-good
+
+  pub join-nobody : (port id : ℕ) → OnlyAnswers (Call.Join port id) s (inOrder (portKnown port ∷ missing ∷ []))
+  unfolding Steps.join joinChecked
+  join-nobody port id =
+      settled-refused s _ (joinChecked port id s) (inOrder (portKnown port ∷ missing ∷ []))
+      (ap (λ (there : Bool). inOrder (portKnown port ∷ must there Refusal.AccountMissing ∷ notInLine port s ∷ portOpen port s ∷ notUsedUp id s ∷ []))
+      (not-there id))
+      (ends-refused (portKnown port ∷ []) Refusal.AccountMissing)
+
+  turn-checks : (port : ℕ) → turnChecked port s ≡ inTurn port s
+  unfolding turnChecked
+  turn-checks port =
+      ap (λ (there : Bool). inOrder (portKnown port ∷ inLine port s ∷ inFront port s ∷ must there Refusal.AccountMissing ∷ notUsedUp (turnId s) s ∷ []))
+      (not-there (turnId s))
+
+  turn-refuses : (port : ℕ) → inTurn port s ≡ Checked.Good → ⊥
+  turn-refuses port = ends-refused (portKnown port ∷ inLine port s ∷ inFront port s ∷ []) Refusal.AccountMissing
+
+  pub challenge-nobody : (port room : ℕ) → OnlyAnswers (Call.Challenge port room) s (inTurn port s)
+  unfolding Steps.challenge
+  challenge-nobody port room = (written-refused _ (turnChecked port s) (inTurn port s) (turn-checks port) (turn-refuses port), refl)
+
+  pub reply-nobody : (port : ℕ) (text : List ℕ) → OnlyAnswers (Call.Reply port text) s (inTurn port s)
+  unfolding Steps.reply
+  reply-nobody port text =
+      replied-refused s (Steps.replyRead port text s) (turnChecked port s) (inTurn port s) (turn-checks port) (turn-refuses port)
+
+  renew-checks : (port count : ℕ) (seed : List ℕ) → renewChecked port count seed s ≡ inTurn port s
+  unfolding renewChecked
+  renew-checks port count seed = go (turnChecked port s) (turn-checks port)
+    where
+      go : (turn : Checked) → turn ≡ inTurn port s
+          → inOrder (turn ∷ countWithin count ∷ seedChecked seed ∷ seedNew seed (turnId s) s ∷ []) ≡ inTurn port s
+      go Checked.Good e = absurd (turn-refuses port (sym e))
+      go (Checked.Refused why) e = e
+
+  pub renew-nobody : (port count : ℕ) (seed new text : List ℕ) → OnlyAnswers (Call.Renew port count seed new text) s (inTurn port s)
+  unfolding Steps.renew
+  renew-nobody port count seed new text =
+      replied-refused s (Steps.renewRead port count seed new text s) (renewChecked port count seed s) (inTurn port s)
+      (renew-checks port count seed) (turn-refuses port)
+
+-- Leave, where a port may be in line.
+pub leave-answer : (port : ℕ) (s : State) → answer (Call.Leave port) s ≡ checkedAnswer (inOrder (portKnown port ∷ inLine port s ∷ []))
+unfolding Steps.leave leaveChecked
+leave-answer port s = ap checkedAnswer (settled-answer s _ (leaveChecked port s))
+
+-- ---- in tables that calls make nobody is in line then
+
+module _ (s : State) (m : Made s) (none : accountsIn (s .rooms) ≡ 0) where
+  pub nobody-waits : s .line .places ≡ []
+  nobody-waits = go (s .line .places) (m .there)
+    where
+      go : (l : List Place) → Each (λ (place : Place). isThere (place .id) s ≡ true) l → l ≡ []
+      go [] h = refl
+      go (x ∷ xs) h = absurd (true≢false (sym (h .0) ∙ not-there s none (x .id)))
+
+  out-of-line : (port : ℕ) → inLine port s ≡ outside
+  unfolding some
+  out-of-line port = ap (λ (l : List Place). must (some (ofPort port) l) Refusal.PortNotInLine) nobody-waits
+
+  pub turn-outside : (port : ℕ) → inTurn port s ≡ inOrder (portKnown port ∷ outside ∷ [])
+  turn-outside port = ap (λ (k : Checked). inOrder (portKnown port ∷ k ∷ inFront port s ∷ missing ∷ [])) (out-of-line port)
+
+  pub leave-outside : (port : ℕ) → OnlyAnswers (Call.Leave port) s (inOrder (portKnown port ∷ outside ∷ []))
+  unfolding Steps.leave leaveChecked
+  leave-outside port =
+      settled-refused s _ (leaveChecked port s) (inOrder (portKnown port ∷ outside ∷ []))
+      (ap (λ (k : Checked). inOrder (portKnown port ∷ k ∷ [])) (out-of-line port)) (ends-refused (portKnown port ∷ []) Refusal.PortNotInLine)
+
+  pub tick-cools : Steps.tick s ≡ record { rooms = s .rooms; ports = map cooled (s .ports); line = s .line }
+  unfolding Steps.tick
+  tick-cools =
+      ap (λ (w : Waiting). record { rooms = s .rooms; ports = map cooled (s .ports); line = w }) (ticked-none (s .line) (ap first nobody-waits))
