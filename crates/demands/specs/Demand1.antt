@@ -9,7 +9,7 @@ use lib.Dec.{ltb}
 use lib.ListN.{length}
 use Rattle.refusal.specs.declared.Refusal.{Refusal}
 use Rattle.refusal.specs.declared.Reading.{Reading}
-use Rattle.refusal.specs.Numbers.{listingOf}
+use Rattle.refusal.specs.Numbers.{listingOf, checkedNumbers}
 use Rattle.refusal.specs.Each.{Each}
 use Rattle.text.specs.Put.{writtenOf}
 use Rattle.digests.specs.Md5.{md5}
@@ -25,7 +25,7 @@ use Rattle.cards.specs.Printed.{answerOf}
 use Rattle.accounts.specs.Rooms.{Room}
 use Rattle.accounts.specs.Accounts.{valuesChecked}
 use Rattle.table.specs.Table.{State}
-use Rattle.reached.specs.Calls.{Call, Answer, checkedAnswer, answer, numbers, after}
+use Rattle.reached.specs.Calls.{Call, Answer, answer, numbers, after}
 use Rattle.reached.specs.InTurn.{Reached}
 use Rattle.grounds.specs.Listed.{isIn, listed, readNumber, writtenNumber, challengeNumber, Given}
 use Rattle.grounds.specs.Conditions.{
@@ -113,18 +113,18 @@ pub program-prints : (input : List ℕ) → (answerOf input ≡ cardAsked input)
 program-prints input = CardProgram.card-printed input
 
 -- Each call of the table, in every table that calls make, the empty one too. The rows of each are `conditionsOf`'s.
-pub call-refusals : (s : State) → Reached s → (c : Call) → Exactly (numbers (answer c s) .0) (conditionsOf c s)
+pub call-refusals : (s : State) → Reached s → (c : Call) → Exactly (numbers (answer c s) .0 .0) (conditionsOf c s)
 call-refusals s r c = call-exactly s (made s r) c
 
 -- What these share: the checks of a pass-phrase, of a seed and of an account's new values, and the reader of hex.
-pub phrase-refusals : (phrase : List ℕ) → Exactly (numbers (checkedAnswer (phraseChecked phrase)) .0) (phraseRows phrase)
+pub phrase-refusals : (phrase : List ℕ) → Exactly (checkedNumbers (phraseChecked phrase) .0) (phraseRows phrase)
 phrase-refusals phrase = Refusing.phrase-exactly phrase
 
-pub seed-refusals : (seed : List ℕ) → Exactly (numbers (checkedAnswer (seedChecked seed)) .0) (seedRows seed)
+pub seed-refusals : (seed : List ℕ) → Exactly (checkedNumbers (seedChecked seed) .0) (seedRows seed)
 seed-refusals seed = Refusing.seed-exactly seed
 
 pub values-refusals : (count : ℕ) (seed : List ℕ) (present : Room)
-    → Exactly (numbers (checkedAnswer (valuesChecked count seed present)) .0) (valuesRows count seed present)
+    → Exactly (checkedNumbers (valuesChecked count seed present) .0) (valuesRows count seed present)
 values-refusals count seed present = Refusing.values-exactly count seed present
 
 pub hex-reader-refusals : (s : List ℕ) → Exactly (readNumber (hexReading s)) ((33, not (sixteenDigits s)) ∷ [])

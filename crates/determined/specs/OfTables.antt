@@ -9,13 +9,14 @@ use Rattle.line.proofs.remove.Reads as line-remove
 use Rattle.line.proofs.tick.Reads as line-tick
 use Rattle.line.proofs.has.Reads as has
 use Rattle.line.proofs.front_of.Reads as front-of
+use Rattle.port.proofs.tick as lent-tick
+use Rattle.port.proofs.right as lent-right
+use Rattle.port.proofs.wrong as lent-wrong
 use Rattle.port.proofs.after_wrong.Reads as after-wrong
 use Rattle.port.proofs.wrong_answer.Reads as wrong-answer
 use Rattle.port.proofs.after_right.Reads as after-right
 use Rattle.port.proofs.after_tick.Reads as after-tick
-use Rattle.refusal.specs.declared.Refusal.{Refusal}
-use Rattle.port.specs.declared.Port.{Port}
-use Rattle.port.specs.Port.{cooled, rightly, wrongly, wrongAnswer}
+use Rattle.port.specs.Port.{cooled, rightly, wrongly}
 use Rattle.table.proofs.held.place_of.Reads as place-of
 use Rattle.table.proofs.held.account_at.Reads as account-at
 use Rattle.table.proofs.held.put.Reads as put
@@ -36,7 +37,7 @@ use Rattle.accounts.specs.Rooms.{roomOf}
 use Rattle.accounts.specs.Accounts.{proposal}
 use Rattle.table.specs.Table.{view}
 use Rattle.table.specs.Steps.{settled, answered}
-use Rattle.determined.specs.Determined.{Answers, AnswersSeen, AnswersAndLent, both, left}
+use Rattle.determined.specs.Determined.{Answers, AnswersSeen, AnswersAndLent, LentByHand, left, one-fact}
 
 -- A line is seen as the ports that wait, with their accounts, and the turn.
 pub line-fresh-determined : AnswersSeen line-fresh.Learnt (λ k y. waiting y)
@@ -73,16 +74,15 @@ after-right-determined k a y z e f p q = p ∙ sym q
 pub after-tick-determined : Answers after-tick.Learnt
 after-tick-determined k a y z e f p q = p ∙ sym q
 
--- A port's record, lent. These three are proved by walks by hand, and a promise proved so has no `Learnt`: here is what each says.
-pub lent-tick-determined : (before y z : Port) → y ≡ cooled before → z ≡ cooled before → y ≡ z
-lent-tick-determined before y z p q = p ∙ sym q
+-- A port's record, lent: the promises of these three are proved by walks by hand.
+pub lent-tick-determined : LentByHand lent-tick.ended (λ M 𝓤. lent-tick.clauses 𝓤) (λ k e. now (e .0))
+lent-tick-determined M 𝓤 H A mem run k a g y z e f = one-fact 𝓤 (cooled (now (a .0))) (now (e .0)) (now (f .0))
 
-pub lent-right-determined : (before y z : Port) → y ≡ rightly before → z ≡ rightly before → y ≡ z
-lent-right-determined before y z p q = p ∙ sym q
+pub lent-right-determined : LentByHand lent-right.ended (λ M 𝓤. lent-right.clauses 𝓤) (λ k e. now (e .0))
+lent-right-determined M 𝓤 H A mem run k a g y z e f = one-fact 𝓤 (rightly (now (a .0))) (now (e .0)) (now (f .0))
 
-pub lent-wrong-determined : (before y z : Port) (r s : Refusal)
-    → (r ≡ wrongAnswer before) × (y ≡ wrongly before) → (s ≡ wrongAnswer before) × (z ≡ wrongly before) → (r ≡ s) × (y ≡ z)
-lent-wrong-determined before y z r s p q = both p q
+pub lent-wrong-determined : LentByHand lent-wrong.ended (λ M 𝓤. lent-wrong.clauses 𝓤) (λ k e. now (e .0))
+lent-wrong-determined M 𝓤 H A mem run k a g y z e f = one-fact 𝓤 (wrongly (now (a .0))) (now (e .0)) (now (f .0))
 
 -- An account is seen as what it means, without the zeros after its seed.
 pub place-of-determined : Answers place-of.Learnt

@@ -47,7 +47,8 @@ use Rattle.cards.specs.CardChecks.{challengeChecked, countOf, cardChecked}
 use Rattle.cards.specs.Cards.{cardOf, cardWritten}
 use Rattle.accounts.specs.Rooms.{Room}
 use Rattle.accounts.specs.Accounts.{valuesChecked}
-use Rattle.reached.specs.Calls.{Answer, checkedAnswer, writtenAnswer, numbers}
+use Rattle.refusal.specs.Numbers.{checkedNumbers}
+use Rattle.reached.specs.Calls.{Answer, writtenAnswer, numbers}
 use Rattle.grounds.specs.Listed.{readNumber, writtenNumber, challengeNumber}
 use Rattle.grounds.specs.Conditions.{
   Row,
@@ -87,7 +88,7 @@ answerChecked (Answer.Count count) = Checked.Good
 answerChecked (Answer.Wrote n) = Checked.Good
 answerChecked (Answer.Refused why) = Checked.Refused why
 
-pub answer-exactly : (a : Answer) (rows : List Row) → Follows (answerChecked a) rows → Exactly (numbers a .0) rows
+pub answer-exactly : (a : Answer) (rows : List Row) → Follows (answerChecked a) rows → Exactly (numbers a .0 .0) rows
 answer-exactly Answer.Done rows f = exactly Checked.Good rows f 0 refl
 answer-exactly (Answer.Count count) rows f = exactly Checked.Good rows f 0 refl
 answer-exactly (Answer.Wrote n) rows f = exactly Checked.Good rows f 0 refl
@@ -100,7 +101,7 @@ readChecked (Reading.Refused why) = Checked.Refused why
 abbrev pub writtenChecked : Written → Checked
 writtenChecked w = answerChecked (writtenAnswer w)
 
-checked-exactly : (check : Checked) (rows : List Row) → Follows check rows → Exactly (numbers (checkedAnswer check) .0) rows
+checked-exactly : (check : Checked) (rows : List Row) → Follows check rows → Exactly (checkedNumbers check .0) rows
 checked-exactly Checked.Good rows f = exactly Checked.Good rows f 0 refl
 checked-exactly (Checked.Refused why) rows f = exactly (Checked.Refused why) rows f (listedAs why) refl
 
@@ -120,7 +121,7 @@ phrase-rows phrase =
     next (ltb (length phrase) 10) Refusal.PhraseShort _ _
     (next (ltb 63 (length phrase)) Refusal.PhraseLong Checked.Good [] (no-rows Checked.Good refl))
 
-pub phrase-exactly : (phrase : List ℕ) → Exactly (numbers (checkedAnswer (phraseChecked phrase)) .0) (phraseRows phrase)
+pub phrase-exactly : (phrase : List ℕ) → Exactly (checkedNumbers (phraseChecked phrase) .0) (phraseRows phrase)
 phrase-exactly phrase = checked-exactly (phraseChecked phrase) (phraseRows phrase) (phrase-rows phrase)
 
 pub seed-rows : (seed : List ℕ) → Follows (seedChecked seed) (seedRows seed)
@@ -134,7 +135,7 @@ seed-rows seed rest = go (leb 1 (length seed) && leb (length seed) 16) (plain se
     go true false = refl
     go false b = refl
 
-pub seed-exactly : (seed : List ℕ) → Exactly (numbers (checkedAnswer (seedChecked seed)) .0) (seedRows seed)
+pub seed-exactly : (seed : List ℕ) → Exactly (checkedNumbers (seedChecked seed) .0) (seedRows seed)
 seed-exactly seed = checked-exactly (seedChecked seed) (seedRows seed) (seed-rows seed)
 
 pub values-rows : (count : ℕ) (seed : List ℕ) (present : Room) → Follows (valuesChecked count seed present) (valuesRows count seed present)
@@ -146,7 +147,7 @@ values-rows count seed present =
     (Bool·not-not (same (map lowerOf seed) (present .seed))) (λ c. no-rows Checked.Good refl)))
 
 pub values-exactly : (count : ℕ) (seed : List ℕ) (present : Room)
-    → Exactly (numbers (checkedAnswer (valuesChecked count seed present)) .0) (valuesRows count seed present)
+    → Exactly (checkedNumbers (valuesChecked count seed present) .0) (valuesRows count seed present)
 values-exactly count seed present =
     checked-exactly (valuesChecked count seed present) (valuesRows count seed present) (values-rows count seed present)
 

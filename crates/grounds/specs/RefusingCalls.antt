@@ -203,5 +203,5 @@ call-rows s m (Call.Reply port text) = call-reply-rows port text s m
 call-rows s m (Call.Renew port count seed new text) = renew-rows port count seed new text s m
 call-rows s m Call.Tick = no-rows Checked.Good refl
 
-pub call-exactly : (s : State) → Made s → (c : Call) → Exactly (numbers (answer c s) .0) (conditionsOf c s)
+pub call-exactly : (s : State) → Made s → (c : Call) → Exactly (numbers (answer c s) .0 .0) (conditionsOf c s)
 call-exactly s m c = answer-exactly (answer c s) (conditionsOf c s) (call-rows s m c)
