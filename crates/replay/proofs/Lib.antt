@@ -2,3 +2,4 @@
 pub mod WordsScanned
 pub mod Paired
 pub mod WordPlaces
+pub mod HeldTo

@@ -1,9 +1,9 @@
 -- What a word of a line says, and where a call's texts stand.
-use Prim.Native.Nat.{ℕ, _+_, _*_, _/_, _%_, _≤_, _<_}
+use Prim.Native.Nat.{ℕ, _+_, _-_, _*_, _/_, _%_, _≤_, _<_}
 use mathlib.Core.Bool.{Bool, true, false, cond, _&&_}
 use mathlib.Core.List.{List, [], _∷_}
 use lib.Dec.{leb, ltb, eqb}
-use lib.ListN.{length, getD, take}
+use lib.ListN.{length, getD, take, drop}
 use Rattle.text.specs.Kinds.{lowerOf}
 use Rattle.text.specs.Digits.{digitValue, numberOf}
 use Rattle.text.specs.Tests.{every, same}
@@ -65,6 +65,17 @@ wordIn Kind.Number w = ofNumber (numberIn 10 65535 w)
 wordIn Kind.Room w = ofNumber (numberIn 10 8192 w)
 wordIn Kind.Ticks w = ofNumber (numberIn 10 100000 w)
 wordIn Kind.No w = ofNumber Number.Bad
+
+-- the bytes of word k, a text; the number that word k says
+abbrev pub textAt : Given → ℕ → List ℕ → List ℕ
+textAt given k line = take (getD (given .ends) k 0 - getD (given .starts) k 0) (drop (getD (given .starts) k 0) line)
+
+abbrev pub numberAt : Given → ℕ → ℕ
+numberAt given k = getD (given .numbers) k 0
+
+-- a number, and every one over `most` as that
+abbrev pub heldTo : ℕ → ℕ → ℕ
+heldTo most n = cond (ltb n (most + 1)) n most
 
 -- a call's texts stand within its line, which has n bytes
 abbrev pub Within : Given → ℕ → Type 0

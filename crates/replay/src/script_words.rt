@@ -3,7 +3,7 @@ ghost use mathlib.Core.Path.{_≡_};
 ghost use Prim.Native.Nat.{ℕ, _+_, _≤_, _<_};
 ghost use lib.ListN.{length, drop};
 ghost use Rattle.bytes.specs.Bytes.{indexOf};
-ghost use Rattle.replay.specs.ReplayWords.{ofNumber, ofBytes, wordIn, Within};
+ghost use Rattle.replay.specs.ReplayWords.{ofNumber, ofBytes, wordIn, textAt, numberAt, heldTo, Within};
 use crate::names::kind_of;
 use crate::word_values::Bytes;
 use crate::word_values::Number;
@@ -158,6 +158,7 @@ pub fn read(line: &mut [u8], call: usize) -> Given
 // The bytes of word k, a text.
 pub fn text(line: &[u8], given: Given, k: usize) -> &[u8]
     requires { ⌜ Within given (length (now line)) × (k < 5) ⌝ }
+    ensures { λ r. ⌜ now r ≡ textAt given k (now (line .entry)) ⌝ }
 {
     let starts = given.starts;
     let ends = given.ends;
@@ -169,6 +170,7 @@ pub fn text(line: &[u8], given: Given, k: usize) -> &[u8]
 // The number that word k says.
 pub fn number(given: Given, k: usize) -> u64
     requires { ⌜ k < 5 ⌝ }
+    ensures { λ r. ⌜ r ≡ numberAt given k ⌝ }
 {
     let numbers = given.numbers;
     numbers[k]
@@ -179,13 +181,16 @@ pub fn number(given: Given, k: usize) -> u64
 // An id, a count, a number of lines.
 pub fn short(given: Given, k: usize) -> u16
     requires { ⌜ k < 5 ⌝ }
+    ensures { λ r. ⌜ r ≡ heldTo 65535 (numberAt given k) ⌝ }
 {
     let n = number(given, k);
     if n < 65536 { n as u16 } else { 65535 }
 }
 
 // A call's port, its first word; those over 255 are refused as 255 is.
-pub fn port(given: Given) -> u8 {
+pub fn port(given: Given) -> u8
+    ensures { λ r. ⌜ r ≡ heldTo 255 (numberAt given 0) ⌝ }
+{
     let n = number(given, 0);
     if n < 256 { n as u8 } else { 255 }
 }
