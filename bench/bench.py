@@ -112,18 +112,25 @@ def growth_table(found):
             print(line)
 
 
+def times(library):
+    # -O3 for the C here; the archive is as rt made it
+    program = harness.build("bench", SOURCES, library, ["-O3"])
+    found = timings(harness.run([program]))
+    compared_table(found)
+    print()
+    growth_table(found)
+    print()
+    calls.table()
+    print()
+
+
 def main(arguments):
     try:
         library = pathlib.Path(arguments[0]).resolve() if arguments else harness.archive()
-        # -O3 for the C here; the archive is as rt made it
-        program = harness.build("bench", SOURCES, library, ["-O3"])
-        found = timings(harness.run([program]))
-        compared_table(found)
-        print()
-        growth_table(found)
-        print()
-        calls.table()
-        print()
+        if harness.NATIVE:
+            times(library)
+        else:
+            print("No times: what rt compiles is for x86-64, and this machine runs it under an emulator.\n")
         sizes.table(library)
     except harness.Failed as failure:
         print(f"bench: FAILED: {failure}")

@@ -24,7 +24,7 @@ LOOP, HASH = "x", "s"
 def spent(asked):
     """Nanoseconds of processor time that the meter takes."""
     before = resource.getrusage(resource.RUSAGE_CHILDREN).ru_utime
-    subprocess.run([METER], input=asked.encode(), check=True, stdout=subprocess.DEVNULL)
+    subprocess.run(harness.runs([METER]), input=asked.encode(), check=True, stdout=subprocess.DEVNULL)
     return (resource.getrusage(resource.RUSAGE_CHILDREN).ru_utime - before) * 1e9
 
 
