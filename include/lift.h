@@ -26,8 +26,8 @@
  *   - That nothing stays behind. A call leaves what it used of the stack as it
  *     is, and that may hold the pass-phrase and passwords. A host that minds
  *     clears that much stack afterwards: docs/GUIDE.md has the bytes.
- *   - Another processor than x86-64: it is the only one that the Rattle kit
- *     compiles for today.
+ *   - Another processor than x86-64: it is all that the Rattle kit compiles
+ *     for today. On Arm the functions are proved, and can't be linked yet.
  */
 #ifndef LIFT_H
 #define LIFT_H
