@@ -55,6 +55,7 @@ SECTIONS = [
     ("ways to call make", commands.makes),
     ("tools that are missing", tools.missing),
     ("crates as they are proved", tools.progress),
+    ("crates of a program", tools.needed),
     ("how a program is started", tools.processors),
     ("quotations in the documents", docs.quotes),
     ("what the guide has typed at a terminal", terminal.typed_by_hand),

@@ -4,7 +4,7 @@ import pathlib
 import harness
 import tidy
 from harness import Failed, call
-from sections import believed, commands, docs, house, numbers, promises, refused, terminal
+from sections import believed, commands, docs, house, numbers, promises, refused, terminal, tools
 
 
 def fails(check, *given):
@@ -133,11 +133,13 @@ def typing():
 
 
 def lists_can_fail(driver):
-    """What isn't so of the refusals, of the files to believe, of a quotation and of what is typed is found."""
+    """What isn't so of the refusals, of the files to believe, of a quotation, of what is typed and of a program's crates is found."""
     text, sources = "```rust\nfn one() {}\n```\n", {"rust": ["fn two() {}\nfn one() {}\n"], "edit": []}
     quotations = [not fails(docs.quoted, text, sources), fails(docs.quoted, text.replace("one", "three"), sources),
                   fails(docs.quoted, text.replace("rust", "edit"), sources)]
-    found = [*refusals(), *beliefs(), *quotations, *typing()]
+    crates = {"card": ["text", "io"], "text": ["refusal"], "refusal": [], "other": []}
+    counts = [not fails(tools.counted, [("card", "3")], crates), fails(tools.counted, [("card", "4")], crates), fails(tools.counted, [], crates)]
+    found = [*refusals(), *beliefs(), *quotations, *typing(), *counts]
     if not all(found):
         raise Failed(f"of the {len(found)}, as they should be: {found}")
     return f"{len(found)} cases: what isn't so is reported, and nothing else"

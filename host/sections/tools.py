@@ -7,6 +7,7 @@ import subprocess
 import tempfile
 
 from harness import ROOT, Failed, typed
+from sections import house
 
 FROM = {"rt": "the Rattle kit", "gcc": "Debian package gcc", "python3": "Debian package python3"}
 # what each target needs of these
@@ -85,6 +86,32 @@ def progress(driver):
             if found != (BEFORE, after, "", status):
                 raise Failed(f"host/prove on an rt that ends with {status}: {found}")
     return f"{len(BEFORE + AFTER)} lines from host/prove, each as soon as rt has said it; all of rt's own where it fails"
+
+
+def under(name, crates):
+    """A crate and all that it stands on, the kit's libraries left out."""
+    found, left = set(), [name]
+    while left:
+        crate = left.pop()
+        if crate in crates and crate not in found:
+            found.add(crate)
+            left += crates[crate]
+    return found
+
+
+def counted(said, crates):
+    """Each sentence on how many crates a program has is true."""
+    wrong = [f"{name}: {count} crates" for name, count in said if int(count) != len(under(name, crates))]
+    if wrong or not said:
+        raise Failed(f"not so many by crates.txt: {', '.join(wrong) or 'nothing is said'}")
+    return len(said)
+
+
+def needed(driver):
+    """How many crates a program has, where README.md and docs/GUIDE.md say it."""
+    texts = "".join((ROOT / page).read_text() for page in ("README.md", "docs/GUIDE.md"))
+    said = re.findall(r"the program `(\w+)` is proved and built: (\d+) crates", texts)
+    return f"{counted(said, house.listed())} sentences on how many crates a program has, true of crates.txt"
 
 
 def started(folder, machine):
