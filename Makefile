@@ -1,11 +1,19 @@
-# What a person types. Each target works on a fresh clone with the kit's rt, gcc and python3 on the PATH.
+# What a person types. Each target works on a fresh clone with what it needs on the PATH; what is missing is said in a line.
 SHELL := /bin/bash
 .PHONY: test bench card replay soak compare
 .DEFAULT_GOAL := test
 
+# A target's first line: `$(call needs,TOOLS)` ends it where one of them isn't on the PATH.
+FROM_rt := the Rattle kit
+FROM_gcc := Debian package gcc
+FROM_python3 := Debian package python3
+missing = $(strip $(foreach tool,$(1),$(if $(shell command -v $(tool)),,$(tool) ($(FROM_$(tool))))))
+needs = $(if $(call missing,$(1)),$(error make $@: not on the PATH: $(call missing,$(1))))
+
 # The gate: layout, every proof from nothing with the must-fail edits and the programs, the host tests.
 # rt ci's verdict is printed once more at the end; whatever fails ends it with a status other than 0.
 test:
+	$(call needs,rt gcc python3)
 	@set -euo pipefail; \
 	said=$$(mktemp); trap 'rm -f "$$said"' EXIT; \
 	rt fmt --check; \
@@ -17,25 +25,22 @@ test:
 # they print and nothing else. A program is proved and built first where that isn't done yet; what there is to
 # say of it goes to standard error.
 card replay:
-	@set -euo pipefail; \
-	[ -x target/bin/$@ ] || echo '$@: proving and building the program first, some minutes, this once' >&2; \
-	said=$$(mktemp); trap 'rm -f "$$said"' EXIT; \
-	rt check $@ </dev/null >"$$said" 2>&1 || { cat "$$said" >&2; exit 1; }; \
-	host/x86_64/run target/bin/$@
+	$(call needs,rt)
+	@host/prove $@ && host/x86_64/run target/bin/$@
 
 # More random scripts on the program replay, N of them: make soak N=100. SEED=.. starts from that seed.
 N := 20
 SEED :=
 soak:
-	@set -euo pipefail; \
-	said=$$(mktemp); trap 'rm -f "$$said"' EXIT; \
-	rt check replay </dev/null >"$$said" 2>&1 || { cat "$$said" >&2; exit 1; }; \
-	python3 host/soak.py $(N) $(SEED)
+	$(call needs,rt python3)
+	@host/prove replay && python3 host/soak.py $(N) $(SEED)
 
 # Ratios to plain C and to Heimdal's library, in one run.
 bench:
-	@python3 bench/bench.py
+	$(call needs,rt gcc python3)
+	@host/prove meter panel && python3 bench/bench.py
 
 # Programs of others on the inputs where they fail, beside our answers: all cases, or CASE=NAME.
 compare:
-	@python3 host/compare/compare.py $(CASE)
+	$(call needs,rt gcc python3)
+	@host/prove panel replay && python3 host/compare/compare.py $(CASE)

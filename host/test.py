@@ -12,14 +12,15 @@ import time
 sys.dont_write_bytecode = True
 
 import harness  # noqa: E402
-from sections import cards, challenges, commands, docs, house, paper, passwords  # noqa: E402
-from sections import promises, refused, replay, replies, selftest  # noqa: E402
+from sections import believed, cards, challenges, commands, docs, house, numbers, paper, passwords  # noqa: E402
+from sections import promises, refused, replay, replies, selftest, terminal, tools  # noqa: E402
 
 SECTIONS = [
     ("comparison can fail", selftest.comparison_can_fail),
     ("reading of refusals can fail", selftest.refusals_can_fail),
     ("comparison of the gate's commands can fail", selftest.gate_can_fail),
     ("checks of the house can fail", selftest.house_can_fail),
+    ("checks of the lists can fail", selftest.lists_can_fail),
     ("document 01's examples", paper.examples),
     ("recorded scripts", paper.scripts),
     ("RFC 2289, Appendix C", passwords.appendix_c),
@@ -46,10 +47,18 @@ SECTIONS = [
     ("one name for one thing", house.words),
     ("imports and long lines", house.layout),
     ("what docs/PROMISES.md names", promises.page),
+    ("files to believe in docs/PROMISES.md", believed.page),
+    ("the list of refusals", numbers.page),
     ("the must-fail edits' logs", refused.page),
     ("figures in README.md", docs.figures),
     ("the gate's command", commands.same_gate),
     ("ways to call make", commands.makes),
+    ("tools that are missing", tools.missing),
+    ("crates as they are proved", tools.progress),
+    ("crates of a program", tools.needed),
+    ("how a program is started", tools.processors),
+    ("quotations in the documents", docs.quotes),
+    ("what the guide has typed at a terminal", terminal.typed_by_hand),
     ("commands in the documents", docs.commands),
 ]
 

@@ -6,8 +6,8 @@
  * task, and two tasks may call at once with buffers of their own.
  *
  * What every call gives
- *   - `refusal` is 0, or the number of document 01's table. After a refusal
- *     every other field is 0, except `place` beside 31.
+ *   - `refusal` is 0, or one of the numbers of `enum lift_refusal`. After a
+ *     refusal every other field is 0, except `place` beside 31.
  *   - Checks run in the order in which a function's comment lists its
  *     refusals; the first that fails is the answer.
  *   - A writer touches only the first `written` bytes of the buffer lent to
@@ -19,6 +19,15 @@
  *     length; a pointer may be null only where its length is 0.
  *   - Two buffers lent to one call don't overlap.
  *   - Nobody else writes to a lent buffer while the call runs.
+ *
+ * What is not promised
+ *   - Constant time. How long a call takes depends on what it is given: a
+ *     higher count takes longer, and so may one text than another.
+ *   - That nothing stays behind. A call leaves what it used of the stack as it
+ *     is, and that may hold the pass-phrase and passwords. A host that minds
+ *     clears that much stack afterwards: docs/GUIDE.md has the bytes.
+ *   - Another processor than x86-64: it is all that the Rattle kit compiles
+ *     for today. On Arm the functions are proved, and can't be linked yet.
  */
 #ifndef LIFT_H
 #define LIFT_H
@@ -29,6 +38,47 @@
 #ifdef __cplusplus
 extern "C" {
 #endif
+
+/* Which state of this header it is: 0 for the base, n after change request
+ * R-n. */
+#define LIFT_VERSION 0
+
+/* The refusals, by the numbers of document 01, the rules of the build;
+ * docs/GUIDE.md has for each what is wrong and what to do. The functions below
+ * give 10 to 40 and 70. 50 to 63 are the login table's own, for a panel that
+ * shows what a controller answered. */
+enum lift_refusal {
+    LIFT_PHRASE_SHORT = 10,
+    LIFT_PHRASE_LONG = 11,
+    LIFT_INPUT_LONG = 12,
+    LIFT_COUNT_HIGH = 13,
+    LIFT_OPENING_WRONG = 20,
+    LIFT_ALGORITHM_UNKNOWN = 21,
+    LIFT_COUNT_UNREAD = 22,
+    LIFT_SEED_LENGTH = 23,
+    LIFT_SEED_CHARACTER = 24,
+    LIFT_SEED_UNENDED = 25,
+    LIFT_REPLY_LONG = 30,
+    LIFT_WORD_UNKNOWN = 31,
+    LIFT_PAIR_SUM_WRONG = 32,
+    LIFT_REPLY_UNREAD = 33,
+    LIFT_BUFFER_SHORT = 40,
+    LIFT_ID_ZERO = 50,
+    LIFT_COUNT_OUTSIDE = 51,
+    LIFT_ID_TAKEN = 52,
+    LIFT_TABLE_FULL = 53,
+    LIFT_ACCOUNT_MISSING = 54,
+    LIFT_PORT_UNKNOWN = 55,
+    LIFT_PORT_IN_LINE = 56,
+    LIFT_PORT_SHUT = 57,
+    LIFT_ACCOUNT_USED_UP = 58,
+    LIFT_PORT_NOT_IN_LINE = 59,
+    LIFT_PORT_NOT_IN_FRONT = 60,
+    LIFT_REPLY_WRONG = 61,
+    LIFT_REPLY_WRONG_THIRD = 62,
+    LIFT_SEED_SAME = 63,
+    LIFT_LINES_OUTSIDE = 70
+};
 
 /* A password, as the 64-bit number whose first byte is the most significant,
  * or a refusal. `place` is 1 to 6 with refusal 31, otherwise 0. */

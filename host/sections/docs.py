@@ -58,6 +58,22 @@ def commands(driver):
     return f"{len(ran)} commands, each prints what its document shows"
 
 
+def quoted(text, sources):
+    """Fails with a quotation that stands in no source of its kind. Hands back how many there are."""
+    found = re.findall(r"^```(rust|edit)\n(.*?)^```$", text, re.M | re.S)
+    for kind, lines in found:
+        if not any(lines in source for source in sources[kind]):
+            raise Failed(f"quoted, and in no source: {lines!r}")
+    return len(found)
+
+
+def quotes(driver):
+    """What the documents quote of the code, and of the edits, stands there to the letter."""
+    sources = {kind: [path.read_text() for path in sorted((ROOT / "crates").glob(f"*/{where}"))]
+               for kind, where in (("rust", "src/**/*.rt"), ("edit", "must-fail/*.edit"))}
+    return f"{sum(quoted(document.read_text(), sources) for document in DOCUMENTS)} quotations of the sources, to the letter"
+
+
 def gate_figures():
     """What the gate's own output counts: crates, functions, axioms, must-fail edits."""
     verdicts = [re.search(r"^logic=proved functions=(\d+)(?:.* axioms=(\d+))?", path.read_text(), re.M)

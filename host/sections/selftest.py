@@ -4,7 +4,7 @@ import pathlib
 import harness
 import tidy
 from harness import Failed, call
-from sections import commands, house, refused
+from sections import believed, commands, docs, house, numbers, promises, refused, terminal, tools
 
 
 def fails(check, *given):
@@ -100,6 +100,46 @@ def names_and_uses():
 def house_can_fail(driver):
     """What isn't so of the drawing, the imports, the lines, the names and the uses is found."""
     found = [*drawings(), *imports(), *names_and_uses()]
+    if not all(found):
+        raise Failed(f"of the {len(found)}, as they should be: {found}")
+    return f"{len(found)} cases: what isn't so is reported, and nothing else"
+
+
+def refusals():
+    """The three lists as they are; then a number that isn't document 01's, a name for another, a row with nothing to do, two rows swapped."""
+    header, code, guide = (path.read_text() for path in (numbers.HEADER, numbers.CODE, numbers.GUIDE))
+    rows = [line for line in guide.splitlines() if line.startswith("| ")]
+    first, second = (next(row for row in rows if row.startswith(f"| {number} ")) for number in (20, 21))
+    wrong = [(header.replace("= 70", "= 71"), code, guide), (header, code.replace("IdZero", "IdNone"), guide),
+             (header, code, guide.replace(first, first.rpartition("|")[0].rpartition("|")[0] + "|")),
+             (header, code, guide.replace(f"{first}\n{second}", f"{second}\n{first}"))]
+    return [not fails(numbers.same, header, code, guide), *(fails(numbers.same, *each) for each in wrong)]
+
+
+def beliefs():
+    """The list of files as it is; then without a file, and without one of the names that a row has of a file."""
+    rows, others = promises.section("What a reader must believe"), believed.inner(promises.PAGE.read_text())
+    lists = [believed.listed([[cells[0].replace(*change)] for cells in rows]) for change in
+             (("", ""), (", Steps.antt", ""), ("`every`, `same` alone", "`every` alone"))]
+    held = [lambda each=each: believed.closed(each, others, [*each, *believed.sources()]) for each in lists]
+    return [not fails(held[0]), *(fails(check) for check in held[1:])]
+
+
+def typing():
+    """A command that hides what is typed, one that shows it, one that prints something else, and one that has the pass-phrase in it."""
+    hides, shows = "IFS= read -rs phrase; echo good", "IFS= read -r phrase; echo good"
+    return [not fails(terminal.held, hides, "good\n"), fails(terminal.held, shows, "good\n"), fails(terminal.held, hides, "bad\n"),
+            fails(terminal.held, f"{hides} # {terminal.PHRASE.strip()}", "good\n")]
+
+
+def lists_can_fail(driver):
+    """What isn't so of the refusals, of the files to believe, of a quotation, of what is typed and of a program's crates is found."""
+    text, sources = "```rust\nfn one() {}\n```\n", {"rust": ["fn two() {}\nfn one() {}\n"], "edit": []}
+    quotations = [not fails(docs.quoted, text, sources), fails(docs.quoted, text.replace("one", "three"), sources),
+                  fails(docs.quoted, text.replace("rust", "edit"), sources)]
+    crates = {"card": ["text", "io"], "text": ["refusal"], "refusal": [], "other": []}
+    counts = [not fails(tools.counted, [("card", "3")], crates), fails(tools.counted, [("card", "4")], crates), fails(tools.counted, [], crates)]
+    found = [*refusals(), *beliefs(), *quotations, *typing(), *counts]
     if not all(found):
         raise Failed(f"of the {len(found)}, as they should be: {found}")
     return f"{len(found)} cases: what isn't so is reported, and nothing else"
