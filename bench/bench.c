@@ -12,6 +12,8 @@
 
 enum { ROUNDS = 101 };
 
+static void (*const concerns[])(size_t) = {time_hashing, time_words, time_card, time_short};
+
 volatile uint64_t sink;
 
 double now(void)
@@ -19,6 +21,11 @@ double now(void)
     struct timespec t;
     clock_gettime(CLOCK_THREAD_CPUTIME_ID, &t);
     return (double)t.tv_sec * 1e9 + (double)t.tv_nsec;
+}
+
+size_t rotated(size_t round, size_t k, size_t n)
+{
+    return (round + k) % n;
 }
 
 void timed(const char *what, const char *whose, double nanoseconds, size_t steps)
@@ -34,16 +41,20 @@ void same(int holds, const char *what)
     exit(1);
 }
 
+static void time_round(size_t round)
+{
+    for (size_t k = 0; k < LENGTH_OF(concerns); k++)
+        concerns[rotated(round, k, LENGTH_OF(concerns))](round);
+}
+
 int main(void)
 {
     find_heimdal();
     check_hashing();
     check_words();
     check_card();
-    for (int round = 0; round < ROUNDS; round++) {
-        time_hashing();
-        time_words();
-        time_card();
-    }
+    check_short();
+    for (size_t round = 0; round < ROUNDS; round++)
+        time_round(round);
     return 0;
 }

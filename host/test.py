@@ -12,7 +12,7 @@ import time
 sys.dont_write_bytecode = True
 
 import harness  # noqa: E402
-from sections import cards, challenges, commands, docs, house, paper, passwords  # noqa: E402
+from sections import cards, challenges, commands, compared, docs, house, paper, passwords  # noqa: E402
 from sections import promises, refused, replay, replies, selftest  # noqa: E402
 
 SECTIONS = [
@@ -20,6 +20,7 @@ SECTIONS = [
     ("reading of refusals can fail", selftest.refusals_can_fail),
     ("comparison of the gate's commands can fail", selftest.gate_can_fail),
     ("checks of the house can fail", selftest.house_can_fail),
+    ("comparisons with others can fail", selftest.comparisons_can_fail),
     ("document 01's examples", paper.examples),
     ("recorded scripts", paper.scripts),
     ("RFC 2289, Appendix C", passwords.appendix_c),
@@ -48,6 +49,7 @@ SECTIONS = [
     ("what docs/PROMISES.md names", promises.page),
     ("the must-fail edits' logs", refused.page),
     ("figures in README.md", docs.figures),
+    ("the table of others' programs", compared.table),
     ("the gate's command", commands.same_gate),
     ("ways to call make", commands.makes),
     ("commands in the documents", docs.commands),

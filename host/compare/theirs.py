@@ -12,16 +12,13 @@ import harness
 
 HERE = pathlib.Path(__file__).resolve().parent
 ABSENT = 3  # the status of our small C programs where the library isn't installed
-# document 01's refusals, as far as they are answers here
-REFUSALS = {"13": "count over 9,999", "21": "another algorithm than md5", "22": "no such count",
-            "32": "check sum wrong", "60": "not in front", "61": "wrong reply"}
 
 # status is None where the time limit ended it; a signal's number is below 0
 Ended = collections.namedtuple("Ended", "status said")
 
 
 class NotShown(Exception):
-    """Why a case says nothing here, in a line."""
+    """Why the others' half says nothing here, in a line."""
 
 
 class Absent(NotShown):
@@ -31,14 +28,19 @@ class Absent(NotShown):
         super().__init__(f"Debian package {package} is not installed here")
 
 
+def say(line):
+    """A line of a case."""
+    print(f"    {line}", flush=True)
+
+
 def versions(*packages):
     """What Debian calls the installed versions, or Absent for the first that isn't there."""
-    return "with " + ", ".join(version(package) for package in packages)
+    return ", ".join(version(package) for package in packages)
 
 
 def version(package):
     try:
-        done = subprocess.run(["dpkg-query", "-W", "-f", "${db:Status-Status} ${Version}", package],
+        done = subprocess.run(["dpkg-query", "-W", "-f", "${db:Status-Status} ${Version} ${Architecture}", package],
                               stdout=subprocess.PIPE, stderr=subprocess.DEVNULL, check=False)
     except OSError:  # no Debian machine
         raise Absent(package) from None
@@ -113,20 +115,23 @@ def as_unprivileged():
 
 
 @functools.cache
-def driver():
-    """The functions of include/lift.h, built once for all cases."""
-    return harness.build("driver", ["host/driver.c", "host/lend.c"], harness.archive(), ["-O2"])
+def linked(name, *sources):
+    """A C program over the functions of include/lift.h, built once for all cases."""
+    return harness.build(name, sources, archive(), ["-O2"])
+
+
+@functools.cache
+def archive():
+    return harness.archive()
 
 
 def ours(lines):
     """What the functions of include/lift.h answer."""
-    return harness.asked(driver(), lines)
+    return harness.asked(linked("driver", "host/driver.c", "host/lend.c"), lines)
 
 
 def replay(lines):
-    """What program replay answers, for the table, which lift.h hasn't; None without the crate."""
-    if not (harness.ROOT / "crates" / "replay").is_dir():
-        return None
+    """What program replay answers, for the table, which lift.h hasn't."""
     harness.run(["rt", "check", "replay"])
     return harness.asked(harness.ROOT / "target" / "bin" / "replay", lines)
 
@@ -137,11 +142,5 @@ def hold(answers, claimed):
         raise harness.Failed(f"our answers are {answers}, claimed were {claimed}")
 
 
-def in_words(answer):
-    """`ok VALUES` or `no NUMBER` for people."""
-    kind, number, *_ = f"{answer} ".split(" ")
-    return answer[3:] if kind == "ok" else f"refused, {number}: {REFUSALS[number]}"
-
-
 def row(whose, said):
-    return f"  {whose:15} {said}"
+    return f"{whose:16} {said}"
