@@ -178,7 +178,7 @@ pub fn tick(line: Line) -> Line
         return line;
     };
     if line.turn < 2 {
-        return leave(line, first.port);
+        return without(line, Who::Port(first.port));
     }
     let places = line.places;
     Line {

@@ -21,7 +21,7 @@ tick-spec =
     (λ c. search needs)
     (λ c. sym (ticked-none (waiting (c .before .before .before .args .line)) (sym (c .before .before .front-of .ensures) ∙ c .enum-told .given .1)))
     (λ c κs. search needs)
-    (λ c. c .leave .ensures
+    (λ c. c .without .ensures
     ∙ sym (ticked-last (waiting (c .before .before .before .before .before .before .before .args .line)) _
     (first-is (c .before .before)) (c .before .if1 .taken)))
     (λ c. search needs)
