@@ -63,7 +63,7 @@ static uint32_t word_at(const uint8_t *p)
     return (uint32_t)p[0] | (uint32_t)p[1] << 8 | (uint32_t)p[2] << 16 | (uint32_t)p[3] << 24;
 }
 
-static void compress_bytes(uint32_t state[4], const uint8_t *block)
+static INLINED void compress_bytes(uint32_t state[4], const uint8_t *block)
 {
     uint32_t m[16];
     for (int i = 0; i < 16; i++)

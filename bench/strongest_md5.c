@@ -2,9 +2,9 @@
  * one before it, so what counts is how little comes after that: F has two
  * operations there and not three; G's halves share no bit, so they are summed,
  * and one of them before the other is known; and the compression stands in the
- * chain itself, where 14 of a block's 16 words are constants. */
+ * loops that call it: in the chain, 14 of a block's 16 words are constants. */
 #define STRONGEST
-#ifdef __clang__
+#ifdef BY_CLANG
 #define plain_md5 clang_md5
 #define plain_password clang_password
 #else
