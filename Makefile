@@ -21,7 +21,7 @@ card replay:
 	[ -x target/bin/$@ ] || echo '$@: proving and building the program first, some minutes, this once' >&2; \
 	said=$$(mktemp); trap 'rm -f "$$said"' EXIT; \
 	rt check $@ </dev/null >"$$said" 2>&1 || { cat "$$said" >&2; exit 1; }; \
-	target/bin/$@
+	host/x86_64/run target/bin/$@
 
 # More random scripts on the program replay, N of them: make soak N=100. SEED=.. starts from that seed.
 N := 20

@@ -1,6 +1,7 @@
 /* Times the proved code beside plain C and, where it is installed, Heimdal's
  * libotp. Prints a line for each timing: what, whose, nanoseconds, steps. All
- * have to give the same results before anything is timed. */
+ * have to give the same results before anything is timed. The argument is how
+ * many rounds there are; with 0 the results are compared and nothing is timed. */
 #define _DEFAULT_SOURCE
 #include "bench.h"
 
@@ -9,8 +10,6 @@
 #include <time.h>
 
 #include "heimdal.h"
-
-enum { ROUNDS = 101 };
 
 static void (*const concerns[])(size_t) = {time_hashing, time_words, time_card, time_short};
 
@@ -47,14 +46,15 @@ static void time_round(size_t round)
         concerns[rotated(round, k, LENGTH_OF(concerns))](round);
 }
 
-int main(void)
+int main(int argc, char **argv)
 {
+    size_t rounds = argc == 2 ? (size_t)atoi(argv[1]) : 0;
     find_heimdal();
     check_hashing();
     check_words();
     check_card();
     check_short();
-    for (size_t round = 0; round < ROUNDS; round++)
+    for (size_t round = 0; round < rounds; round++)
         time_round(round);
     return 0;
 }

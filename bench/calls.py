@@ -54,6 +54,7 @@ def repeated():
 
 def check():
     """Each row's call leaves what the row says: what is timed is what the title has."""
+    harness.run(["rt", "check", "meter"])
     for call, accounts in repeated():
         left = CALLS[call].left if accounts != "0" else NO_LINE
         said = harness.run([METER], input=f"{call}{accounts}1".encode()).strip()
@@ -64,7 +65,7 @@ def check():
 def spent(asked):
     """Nanoseconds of processor time that the meter takes."""
     before = resource.getrusage(resource.RUSAGE_CHILDREN).ru_utime
-    subprocess.run([METER], input=asked.encode(), check=True, stdout=subprocess.DEVNULL)
+    subprocess.run(harness.runs([METER]), input=asked.encode(), check=True, stdout=subprocess.DEVNULL)
     return (resource.getrusage(resource.RUSAGE_CHILDREN).ru_utime - before) * 1e9
 
 
@@ -126,7 +127,6 @@ def call_row(call, calls, limit):
 
 
 def table():
-    harness.run(["rt", "check", "meter"])
     check()
     found = measured()
     one_hash, copied = found[HASH, "0"], found[LOOP, "3"]

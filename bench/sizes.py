@@ -18,7 +18,7 @@ def symbols(library, kind):
 
 def section_bytes(program):
     """Bytes by kind of a linked program, from `size -A`."""
-    lines = (line.split() for line in harness.run(["size", "-A", program]).splitlines())
+    lines = (line.split() for line in harness.run(["size", "-A", harness.linked(program)]).splitlines())
     sizes = {words[0]: int(words[1]) for words in lines
              if len(words) == 3 and words[1].isdigit()}
     return {kind: sum(sizes.get(section, 0) for section in sections)

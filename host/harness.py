@@ -1,6 +1,7 @@
 """What the sections share: building the C programs, asking them, comparing."""
 import os
 import pathlib
+import platform
 import subprocess
 
 import model
@@ -9,7 +10,13 @@ ROOT = pathlib.Path(__file__).resolve().parent.parent
 BUILT = ROOT / "target" / "host"
 WARNINGS = ("-std=c11 -Wall -Wextra -Werror -pedantic -Wshadow -Wconversion -Wcast-qual "
             "-Wstrict-prototypes -Wmissing-prototypes -Wvla").split()
-SANITIZERS = ["-g", "-fsanitize=address,undefined", "-fno-sanitize-recover=all"]
+# what rt compiles, and the C that is linked with it, is for x86-64; on another machine it runs under the kit's emulator
+X86_64 = ROOT / "host" / "x86_64"
+NATIVE = platform.machine() == "x86_64"
+# the kit has no sanitizer's library for x86-64: elsewhere undefined behaviour traps, and addresses have the guard pages alone
+SANITIZED = "AddressSanitizer and UndefinedBehaviorSanitizer" if NATIVE else "undefined behaviour traps, no AddressSanitizer here"
+SANITIZERS = (["-g", "-fsanitize=address,undefined", "-fno-sanitize-recover=all"] if NATIVE else
+              ["-g", "-fsanitize=undefined", "-fsanitize-trap=all"])
 
 # the calls that the driver knows: those of lift.h so far
 IN_C = {"md5", "gen", "read", "hex", "words", "chal", "wchal", "card"}
@@ -20,14 +27,20 @@ class Failed(Exception):
 
 
 def typed(**more):
-    """The environment of a command that a person types: without what a make around this test hands on."""
+    """The environment of a command that a person types: without what a make around this test hands on, and where `gcc` is for x86-64."""
     of_make = {"MAKEFLAGS", "MAKELEVEL", "MFLAGS", "GNUMAKEFLAGS", "MAKEOVERRIDES", "MAKE_TERMERR", "MAKE_TERMOUT"}
-    return {**{name: value for name, value in os.environ.items() if name not in of_make}, **more}
+    mine = {name: value for name, value in os.environ.items() if name not in of_make}
+    return {**mine, "PATH": mine["PATH"] if NATIVE else f"{X86_64}:{mine['PATH']}", **more}
+
+
+def runs(command):
+    """The command, and where it is one of the programs what runs it."""
+    return [X86_64 / "run", *command] if pathlib.Path(command[0]).parent == ROOT / "target" / "bin" else command
 
 
 def run(command, **options):
     """What a command prints; a status that isn't 0 fails the check."""
-    words = [str(word) for word in command]
+    words = [str(word) for word in runs(command)]
     try:
         done = subprocess.run(words, cwd=ROOT, timeout=1800, stdout=subprocess.PIPE,
                               stderr=subprocess.STDOUT, **options)
@@ -48,8 +61,13 @@ def archive():
 def build(name, sources, library, flags):
     """A C program linked with the archive."""
     BUILT.mkdir(parents=True, exist_ok=True)
-    run(["gcc", *WARNINGS, *flags, "-Iinclude", *sources, library, "-ldl", "-o", BUILT / name])
+    run([X86_64 / "gcc", *WARNINGS, *flags, "-Iinclude", *sources, library, "-o", BUILT / name])
     return BUILT / name
+
+
+def linked(program):
+    """The program itself, where in its place stands a script that runs it."""
+    return program if NATIVE else program.with_name(f"{program.name}.x86_64")
 
 
 def call(name, *words):

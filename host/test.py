@@ -68,7 +68,7 @@ def said_of(name, section, *given):
 
 
 def boundary(library):
-    """The C test of each exported function, under the sanitizers."""
+    """The C test of each exported function, with what sanitizers there are."""
     sources = [*sorted((harness.ROOT / "host").glob("boundary*.c")), "host/lend.c"]
     program = harness.build("boundary", sources, library, harness.SANITIZERS)
     return harness.run([program]).strip().replace("\n", "; ")
@@ -81,7 +81,7 @@ def main(arguments):
     except harness.Failed as failure:
         print(f"host: FAILED to build: {failure}")
         return 1
-    passed = [said_of("C boundary, with sanitizers", boundary, library)]
+    passed = [said_of(f"C boundary ({harness.SANITIZED})", boundary, library)]
     passed += [said_of(name, section, driver) for name, section in SECTIONS]
     print(f"host: {passed.count(True)} sections passed, {passed.count(False)} failed")
     return 0 if all(passed) else 1

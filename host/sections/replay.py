@@ -75,7 +75,7 @@ def at_random(driver):
 
 def printed(stdin):
     """What the program prints for these bytes."""
-    done = subprocess.run([PROGRAM], input=stdin, timeout=60, stdout=subprocess.PIPE, stderr=subprocess.PIPE)
+    done = subprocess.run(harness.runs([PROGRAM]), input=stdin, timeout=60, stdout=subprocess.PIPE, stderr=subprocess.PIPE)
     if done.returncode != 0 or done.stderr:
         raise Failed(f"status {done.returncode}, {done.stderr[:500]} on {stdin[:100]}")
     return done.stdout
