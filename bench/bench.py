@@ -10,7 +10,6 @@ none.
 """
 import collections
 import pathlib
-import shutil
 import statistics
 import sys
 
@@ -120,7 +119,7 @@ def compared_table(found):
     print(f"{'':45} {'time':>12} {'':20}{'ratio':>6}  at most")
     print("\n".join(compared_rows(found)))
     if ("chain", "clang") not in found:
-        print("best C by clang: skipped, not installed here (Debian package clang)")
+        print("best C, clang -O3: skipped, no clang here that compiles it (Debian package clang)")
     if ("chain", "heimdal") not in found:
         print("Heimdal's libotp: skipped, not installed here (Debian package libotp0-heimdal)")
 
@@ -158,12 +157,13 @@ def short_table(found):
 
 
 def by_clang():
-    """The best C once more, compiled by clang where that is installed: what is linked, and the flag that says so."""
-    if shutil.which("clang") is None:
-        return [], []
+    """The best C once more, where there is a clang that compiles it: what is linked, and the flag that says so."""
     harness.BUILT.mkdir(parents=True, exist_ok=True)
     compiled = harness.BUILT / "clang_md5.o"
-    harness.run(["clang", *harness.WARNINGS, "-O3", "-fPIE", "-DBY_CLANG", "-c", "bench/strongest_md5.c", "-o", compiled])
+    try:
+        harness.run(["clang", "-std=c11", "-O3", "-fPIE", "-DBY_CLANG", "-c", "bench/strongest_md5.c", "-o", compiled])
+    except harness.Failed:
+        return [], []
     return [compiled], ["-DWITH_CLANG"]
 
 

@@ -135,6 +135,7 @@ def table():
     print(f"The login table: nanoseconds of a call, median of {ROUNDS} rounds, less the loop without a call.")
     print(f"{'':30}" + "".join(f"{title:>14}" for title in ACCOUNTS.values()))
     print("\n".join(call_row(call, calls, limit) for call in CALLS))
+    print("Without an account every call but Enrol and Tick is refused.")
     print(f"One hash takes {one_hash:.1f}, the loop without a call, which copies the table, {copied:.1f}; "
           f"a Table has {table_bytes():,} bytes.")
     print(f"A call without a hash is to take one hash and the copying at most, {limit:.1f}; one that is over it is marked.")

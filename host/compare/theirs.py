@@ -36,19 +36,20 @@ def say(line):
 
 def versions(*packages):
     """What Debian calls the installed versions, or Absent for the first that isn't there."""
-    return ", ".join(version(package) for package in packages)
+    return ", ".join(f"{package} {version(package)}" for package in packages)
 
 
 def version(package):
+    """The version and, in brackets, the kind of machine that it is for."""
     try:
-        done = subprocess.run(["dpkg-query", "-W", "-f", "${db:Status-Status} ${Version} ${Architecture}", package],
+        done = subprocess.run(["dpkg-query", "-W", "-f", "${db:Status-Status} ${Version} (${Architecture})", package],
                               stdout=subprocess.PIPE, stderr=subprocess.DEVNULL, check=False)
     except OSError:  # no Debian machine
         raise Absent(package) from None
     status, _, number = done.stdout.decode().partition(" ")
     if status != "installed":
         raise Absent(package)
-    return f"{package} {number}"
+    return number
 
 
 def built(source):
