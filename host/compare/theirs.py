@@ -40,16 +40,22 @@ def versions(*packages):
 
 
 def version(package):
-    """The version and, in brackets, the kind of machine that it is for."""
-    try:
-        done = subprocess.run(["dpkg-query", "-W", "-f", "${db:Status-Status} ${Version} (${Architecture})", package],
-                              stdout=subprocess.PIPE, stderr=subprocess.DEVNULL, check=False)
-    except OSError:  # no Debian machine
-        raise Absent(package) from None
-    status, _, number = done.stdout.decode().partition(" ")
-    if status != "installed":
+    """The version and, in brackets, the kind of machine that it is for: of one for other machines beside it nothing is said."""
+    shown = dpkg("dpkg-query", "-W", "-f", "${db:Status-Status} ${Architecture} ${Version}\n", package)
+    kinds = ["all", *dpkg("dpkg", "--print-architecture").split()]
+    rows = [line.split(" ") for line in shown.splitlines()]
+    found = [f"{number} ({kind})" for status, kind, number in rows if status == "installed" and kind in kinds]
+    if not found:
         raise Absent(package)
-    return number
+    return found[0]
+
+
+def dpkg(*command):
+    """What Debian's package manager prints; nothing where there is none."""
+    try:
+        return subprocess.run(command, stdout=subprocess.PIPE, stderr=subprocess.DEVNULL, check=False).stdout.decode()
+    except OSError:
+        return ""
 
 
 def built(source):
