@@ -38,8 +38,8 @@ WITH_A_LINE = "tu"
 # those that hash: Reply is held to a multiple of its hash, every other call to one hash and the copying
 REPLIES, HASHING = "hw", "hwn"
 MOST_HASHES, AIM_HASHES = 5, 3
-# the loop without a call, in which the table is only copied; and the one hash that Reply does
-LOOP, HASH = "x", "s"
+# the loop without a call, in which the table is only copied, with what that has; and the one hash that Reply does
+LOOP, FOUND, HASH = "x", "4 60 0 0", "s"
 
 
 def on(call):
@@ -52,14 +52,20 @@ def repeated():
     return [(call, accounts) for call in CALLS for accounts in on(call)]
 
 
+def due(call, accounts):
+    """What the meter's last table has to have."""
+    if call == LOOP:
+        return FOUND
+    return CALLS[call].left if accounts != "0" else NO_LINE
+
+
 def check():
-    """Each row's call leaves what the row says: what is timed is what the title has."""
+    """Each call finds and leaves what its row says: what is timed is what the title has."""
     harness.run(["rt", "check", "meter"])
-    for call, accounts in repeated():
-        left = CALLS[call].left if accounts != "0" else NO_LINE
+    for call, accounts in [(LOOP, "3"), *repeated()]:
         said = harness.run([METER], input=f"{call}{accounts}1".encode()).strip()
-        if said != left:
-            raise harness.Failed(f"{CALLS[call].title}, {ACCOUNTS[accounts]}: the meter's last table has {said}, not {left}")
+        if said != due(call, accounts):
+            raise harness.Failed(f"meter, {call} on {ACCOUNTS[accounts]}: its last table has {said}, not {due(call, accounts)}")
 
 
 def spent(asked):
