@@ -1,6 +1,7 @@
 /* Times the proved code beside plain C and, where it is installed, Heimdal's
  * libotp. Prints a line for each timing: what, whose, nanoseconds, steps. All
- * have to give the same results before anything is timed. */
+ * have to give the same results before anything is timed. The argument is how
+ * many rounds there are; with 0 the results are compared and nothing is timed. */
 #define _DEFAULT_SOURCE
 #include "bench.h"
 
@@ -10,7 +11,7 @@
 
 #include "heimdal.h"
 
-enum { ROUNDS = 101 };
+static void (*const concerns[])(size_t) = {time_hashing, time_words, time_card, time_short};
 
 volatile uint64_t sink;
 
@@ -19,6 +20,11 @@ double now(void)
     struct timespec t;
     clock_gettime(CLOCK_THREAD_CPUTIME_ID, &t);
     return (double)t.tv_sec * 1e9 + (double)t.tv_nsec;
+}
+
+size_t rotated(size_t round, size_t k, size_t n)
+{
+    return (round + k) % n;
 }
 
 void timed(const char *what, const char *whose, double nanoseconds, size_t steps)
@@ -34,16 +40,21 @@ void same(int holds, const char *what)
     exit(1);
 }
 
-int main(void)
+static void time_round(size_t round)
 {
+    for (size_t k = 0; k < LENGTH_OF(concerns); k++)
+        concerns[rotated(round, k, LENGTH_OF(concerns))](round);
+}
+
+int main(int argc, char **argv)
+{
+    size_t rounds = argc == 2 ? (size_t)atoi(argv[1]) : 0;
     find_heimdal();
     check_hashing();
     check_words();
     check_card();
-    for (int round = 0; round < ROUNDS; round++) {
-        time_hashing();
-        time_words();
-        time_card();
-    }
+    check_short();
+    for (size_t round = 0; round < rounds; round++)
+        time_round(round);
     return 0;
 }

@@ -1,10 +1,12 @@
 """The benchmark: `python3 bench/bench.py`.
 
 Builds bench.c over the archive, runs it once and prints what took how long.
-Its rounds time one thing after the other, so a ratio is taken within each
-round; the tables have the median time and the median ratio. After that come
-the calls of the login table, which the program `meter` repeats, and the sizes.
-With an argument it takes that archive and builds none.
+Its rounds time one thing after the other, each round in another order, so a
+ratio is taken within each round; the tables have the median time and the
+median ratio. After that come the calls of the login table, which the program
+`meter` repeats, and the sizes. A bound that isn't met is marked NOT MET, and
+the status is 0 all the same. With an argument it takes that archive and builds
+none.
 """
 import collections
 import pathlib
@@ -14,19 +16,24 @@ import sys
 sys.dont_write_bytecode = True
 sys.path.insert(0, str(pathlib.Path(__file__).resolve().parent.parent / "host"))
 
+import bounds  # noqa: E402
 import calls  # noqa: E402
 import harness  # noqa: E402
 import sizes  # noqa: E402
 
+ROUNDS = 101
 SOURCES = [f"bench/{name}.c" for name in
-           ["bench", "hashing", "words", "card", "heimdal", "plain_md5", "tuned_md5"]]
+           ["bench", "hashing", "words", "card", "short", "heimdal", "plain_md5", "strongest_md5"]]
 WHOSE = {
     "proved": "proved code",
     "plain": "plain C, gcc -O3",
-    "tuned": "plain C, G as a sum",
+    "gcc": "best C, gcc -O3",
+    "clang": "best C, clang -O3",
     "heimdal": "Heimdal's libotp",
     "generator": "one generator call",
 }
+# the rows in C: a bound is held against the fastest of them
+IN_C = ["plain", "gcc", "clang"]
 # what is compared, and what its steps are
 COMPARED = {
     "chain": ("9,999 chain steps", "a step"),
@@ -37,19 +44,31 @@ COMPARED = {
     "hex-written": ("4,096 hex texts written", "a text"),
     "card": ("99 lines at count 9,999", "each"),
 }
-# the ratio that is to be reached, and where there is one, the ratio aimed for
+# the rows against the fastest of which a bound is held, the ratio that is to be reached, and the one aimed for
 WANTED = {
-    ("chain", "plain"): "1.00",
-    ("md5-4096", "plain"): "1.05",
-    ("words-read", "heimdal"): "0.50, aim 0.25",
-    ("words-written", "heimdal"): "1.00, aim 0.60",
-    ("card", "generator"): "1.10",
+    "chain": (IN_C, 1.00, None),
+    "md5-4096": (IN_C, 1.05, None),
+    "words-read": (["heimdal"], 0.50, 0.25),
+    "words-written": (["heimdal"], 1.00, 0.60),
+    "card": (["generator"], 1.10, None),
 }
 # what grows, and what its steps are
 GROWING = {
     "password at count {:,}": (["generator-0", "generator-10", "generator-100",
                                 "generator-1000", "generator-9999"], "a step"),
-    "MD5 of {:,} bytes": (["md5-0", "md5-64", "md5-512", "md5-4096"], "a block"),
+    "MD5 of {:,} bytes": (["md5-0", "md5-8", "md5-55", "md5-56", "md5-64", "md5-512", "md5-4096"], "a block"),
+}
+# calls with little to do
+SHORT = {
+    "reply-empty": "reply of 0 bytes, refused (33)",
+    "reply-blank": "reply of 128 blanks, refused (33)",
+    "reply-words": "reply in words, 11 bytes, read",
+    "reply-hex": "reply in hex, 16 bytes, read",
+    "challenge-empty": "challenge of 0 bytes, refused (20)",
+    "challenge-short": "challenge of 12 bytes read",
+    "challenge-long": "challenge of 30 bytes read",
+    "written-short": "challenge of 15 bytes written",
+    "written-long": "challenge of 30 bytes written",
 }
 
 Timing = collections.namedtuple("Timing", "rounds steps")
@@ -70,67 +89,107 @@ def ratio(what, whose, found):
     return statistics.median(proved / other for proved, other in pairs)
 
 
+def fastest(what, rows, found):
+    """Of those rows the one that the proved code is slowest beside; None where none was timed."""
+    there = [whose for whose in rows if (what, whose) in found]
+    return max(there, key=lambda whose: ratio(what, whose, found), default=None)
+
+
+def bound(what, whose, found):
+    """The bound that is held against this row, and whether it is met."""
+    rows, most, aim = WANTED.get(what, ([], None, None))
+    return bounds.said(ratio(what, whose, found), most, aim) if whose == fastest(what, rows, found) else ""
+
+
 def compared_row(what, whose, found):
     title, step = COMPARED[what]
     rounds, steps = found[what, whose]
     median = statistics.median(rounds)
-    wanted = WANTED.get((what, whose), "")
     return (f"{title:24} {WHOSE[whose]:20} {median / 1000:9.2f} µs {median / steps:8.1f} ns "
-            f"{step:8}{ratio(what, whose, found):6.2f}  {wanted}").rstrip()
+            f"{step:8}{ratio(what, whose, found):6.2f}  {bound(what, whose, found)}").rstrip()
+
+
+def compared_rows(found):
+    return [compared_row(what, whose, found) for what in COMPARED for whose in WHOSE if (what, whose) in found]
 
 
 def compared_table(found):
     count = len(found["chain", "proved"].rounds)
     print(f"Median of {count} rounds; the ratio is the proved code's time to that row's.")
     print(f"{'':45} {'time':>12} {'':20}{'ratio':>6}  at most")
-    for what in COMPARED:
-        for whose in WHOSE:
-            if (what, whose) in found:
-                print(compared_row(what, whose, found))
+    print("\n".join(compared_rows(found)))
+    if ("chain", "clang") not in found:
+        print("best C, clang -O3: skipped, no clang here that compiles it (Debian package clang)")
     if ("chain", "heimdal") not in found:
         print("Heimdal's libotp: skipped, not installed here (Debian package libotp0-heimdal)")
 
 
+def each_step(now, before, step):
+    """What each step took that the row before has not."""
+    if before is None or now[1] == before[1]:
+        return ""
+    return f"{(now[0] - before[0]) / (now[1] - before[1]):8.1f} ns {step}"
+
+
 def growth_rows(title, whats, step, found):
-    """Times of the proved code, and what each step took that the row before has not."""
+    """Times of the proved code, and its ratio to the fastest row in C."""
     before = None
     for what in whats:
         rounds, steps = found[what, "proved"]
-        median = statistics.median(rounds)
-        each = "" if before is None else (
-            f"{(median - before[0]) / (steps - before[1]):8.1f} ns {step}")
+        now = statistics.median(rounds), steps
         size = int(what.split("-")[1])
-        yield (f"{title.format(size):45} {median / 1000:9.2f} µs {each:20}"
-               f"{ratio(what, 'plain', found):6.2f}")
-        before = median, steps
+        yield (f"{title.format(size):45} {now[0] / 1000:9.2f} µs {each_step(now, before, step):20}"
+               f"{ratio(what, fastest(what, IN_C, found), found):6.2f}")
+        before = now
 
 
 def growth_table(found):
-    print("How the proved code's time grows, by each step; the ratio is to plain C.")
+    print("How the proved code's time grows, by each step; the ratio is to the fastest C.")
     for title, (whats, step) in GROWING.items():
-        for line in growth_rows(title, whats, step, found):
-            print(line)
+        print("\n".join(growth_rows(title, whats, step, found)))
+
+
+def short_table(found):
+    print("Calls with little to do, by the proved code.")
+    for what, title in SHORT.items():
+        rounds, steps = found[what, "proved"]
+        print(f"{title:45} {statistics.median(rounds) / steps:9.1f} ns a call")
+
+
+def by_clang():
+    """The best C once more, where there is a clang that compiles it: what is linked, and the flag that says so."""
+    harness.BUILT.mkdir(parents=True, exist_ok=True)
+    compiled = harness.BUILT / "clang_md5.o"
+    try:
+        harness.run(["clang", "-std=c11", "-O3", "-fPIE", "-DBY_CLANG", "-c", "bench/strongest_md5.c", "-o", compiled])
+    except harness.Failed:
+        return [], []
+    return [compiled], ["-DWITH_CLANG"]
 
 
 def times(library):
+    compiled, flag = by_clang()
     # -O3 for the C here; the archive is as rt made it
-    program = harness.build("bench", SOURCES, library, ["-O3"])
-    found = timings(harness.run([program]))
-    compared_table(found)
-    print()
-    growth_table(found)
-    print()
+    program = harness.build("bench", [*SOURCES, *compiled], library, ["-O3", *flag])
+    found = timings(harness.run([program, ROUNDS]))
+    for table in (compared_table, growth_table, short_table):
+        table(found)
+        print()
     calls.table()
     print()
+
+
+def results(library):
+    """Where there is nothing to time: that the rows give the same results, and that the calls leave what they should."""
+    harness.run([harness.build("bench", SOURCES, library, ["-O3"]), 0])
+    calls.check()
+    print("No times: what rt compiles is for x86-64, and this machine runs it under an emulator. The rows' results are the same.\n")
 
 
 def main(arguments):
     try:
         library = pathlib.Path(arguments[0]).resolve() if arguments else harness.archive()
-        if harness.NATIVE:
-            times(library)
-        else:
-            print("No times: what rt compiles is for x86-64, and this machine runs it under an emulator.\n")
+        (times if harness.NATIVE else results)(library)
         sizes.table(library)
     except harness.Failed as failure:
         print(f"bench: FAILED: {failure}")

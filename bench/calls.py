@@ -5,6 +5,7 @@ import resource
 import statistics
 import subprocess
 
+import bounds
 import harness
 
 METER = harness.ROOT / "target" / "bin" / "meter"
@@ -12,13 +13,59 @@ ROUNDS = 15
 THOUSANDS = 100
 # the accounts of a table, by the character that asks for them
 ACCOUNTS = {"0": "0 accounts", "1": "1 account", "3": "32 accounts"}
-# each call by its letter; on a table with an account all are accepted but Enrol at 32 (53)
+
+# a row's title, and what the meter's last table then has, after 1,000 calls on a table with an account
+Row = collections.namedtuple("Row", "title left")
+# Each call by its letter. Port 0 is in front of three others, all for one account; Join finds the three. A port in line
+# is never shut, so Tick has two rows with a line. With an account all are accepted but Enrol at 32 (53). What is left
+# is: ports in line, ticks of the turn (of a challenge its first letter, o), port 0's wrong run, port 3's shut ticks.
 CALLS = {
-    "e": "Enrol", "r": "Remove", "j": "Join", "l": "Leave", "c": "Challenge", "t": "Tick",
-    "h": "Reply, in hex", "w": "Reply, in words", "n": "Renew",
+    "e": Row("Enrol", "0 0 0 0"),
+    "r": Row("Remove, four ports leave", "0 0 0 0"),
+    "j": Row("Join, as the fourth", "4 60 0 0"),
+    "l": Row("Leave, three behind", "3 60 0 0"),
+    "c": Row("Challenge", "4 111 0 0"),
+    "i": Row("Tick, nobody in line", "0 0 0 0"),
+    "t": Row("Tick, four in line", "4 20 0 0"),
+    "u": Row("Tick, one in line, three shut", "1 20 0 860"),
+    "h": Row("Reply, in hex", "3 60 0 0"),
+    "w": Row("Reply, in words", "3 60 0 0"),
+    "n": Row("Renew", "3 60 0 0"),
 }
-# the loop without a call, in which the table is only copied; and the one hash that Reply does
-LOOP, HASH = "x", "s"
+# without an account nobody is in line
+NO_LINE = "0 0 0 0"
+WITH_A_LINE = "tu"
+# those that hash: Reply is held to a multiple of its hash, every other call to one hash and the copying
+REPLIES, HASHING = "hw", "hwn"
+MOST_HASHES, AIM_HASHES = 5, 3
+# the loop without a call, in which the table is only copied, with what that has; and the one hash that Reply does
+LOOP, FOUND, HASH = "x", "4 60 0 0", "s"
+
+
+def on(call):
+    """The tables that a call is repeated on: where the row is for a line, those that can have one."""
+    return [accounts for accounts in ACCOUNTS if call not in WITH_A_LINE or accounts != "0"]
+
+
+def repeated():
+    """Each call with the accounts that it is repeated on."""
+    return [(call, accounts) for call in CALLS for accounts in on(call)]
+
+
+def due(call, accounts):
+    """What the meter's last table has to have."""
+    if call == LOOP:
+        return FOUND
+    return CALLS[call].left if accounts != "0" else NO_LINE
+
+
+def check():
+    """Each call finds and leaves what its row says: what is timed is what the title has."""
+    harness.run(["rt", "check", "meter"])
+    for call, accounts in [(LOOP, "3"), *repeated()]:
+        said = harness.run([METER], input=f"{call}{accounts}1".encode()).strip()
+        if said != due(call, accounts):
+            raise harness.Failed(f"meter, {call} on {ACCOUNTS[accounts]}: its last table has {said}, not {due(call, accounts)}")
 
 
 def spent(asked):
@@ -28,15 +75,23 @@ def spent(asked):
     return (resource.getrusage(resource.RUSAGE_CHILDREN).ru_utime - before) * 1e9
 
 
+def once(call, accounts):
+    """Nanoseconds of one repetition, less a run of 1,000."""
+    few, many = spent(f"{call}{accounts}1"), spent(f"{call}{accounts}{THOUSANDS + 1}")
+    return (many - few) / (THOUSANDS * 1000)
+
+
+def rotated(rows, number):
+    """The rows from that one on, and then those before it."""
+    start = number % len(rows)
+    return rows[start:] + rows[:start]
+
+
 def measured():
-    """Nanoseconds of one repetition, by its letter and accounts: the median of the rounds, less a run of 1,000."""
-    rounds = collections.defaultdict(list)
-    wanted = [(HASH, "0"), (LOOP, "3")] + [(call, accounts) for call in CALLS for accounts in ACCOUNTS]
-    for _ in range(ROUNDS):
-        for call, accounts in wanted:
-            few, many = spent(f"{call}{accounts}1"), spent(f"{call}{accounts}{THOUSANDS + 1}")
-            rounds[call, accounts].append((many - few) / (THOUSANDS * 1000))
-    return {what: statistics.median(times) for what, times in rounds.items()}
+    """Nanoseconds of one repetition, by its letter and accounts: the median of the rounds, each of which starts at another row."""
+    wanted = [(HASH, "0"), (LOOP, "3"), *repeated()]
+    rounds = [{row: once(*row) for row in rotated(wanted, number * len(wanted) // ROUNDS)} for number in range(ROUNDS)]
+    return {row: statistics.median(times[row] for times in rounds) for row in wanted}
 
 
 class Account(ctypes.Structure):
@@ -69,19 +124,27 @@ def table_bytes():
     return size
 
 
+def call_row(call, calls, limit):
+    """A row of the table; a call without a hash that is over the limit on some table is marked."""
+    cells = [f"{calls[call, accounts]:14.1f}" if (call, accounts) in calls else f"{'':14}" for accounts in ACCOUNTS]
+    worst = max(calls[call, accounts] for accounts in on(call))
+    mark = "  NOT MET" if call not in HASHING and not bounds.met(worst, limit) else ""
+    return f"{CALLS[call].title:30}{''.join(cells)}{mark}"
+
+
 def table():
-    harness.run(["rt", "check", "meter"])
+    check()
     found = measured()
     one_hash, copied = found[HASH, "0"], found[LOOP, "3"]
     calls = {what: taken - copied for what, taken in found.items() if what[0] in CALLS}
+    limit = one_hash + copied
     print(f"The login table: nanoseconds of a call, median of {ROUNDS} rounds, less the loop without a call.")
-    print(f"{'':24}" + "".join(f"{title:>14}" for title in ACCOUNTS.values()))
-    for call, title in CALLS.items():
-        print(f"{title:24}" + "".join(f"{calls[call, accounts]:14.1f}" for accounts in ACCOUNTS))
+    print(f"{'':30}" + "".join(f"{title:>14}" for title in ACCOUNTS.values()))
+    print("\n".join(call_row(call, calls, limit) for call in CALLS))
+    print("Without an account every call but Enrol and Tick is refused.")
     print(f"One hash takes {one_hash:.1f}, the loop without a call, which copies the table, {copied:.1f}; "
           f"a Table has {table_bytes():,} bytes.")
-    for call in "hw":
-        print(f"{CALLS[call]}, to its one hash: {calls[call, '3'] / one_hash:.2f} (at most 5, aim 3)")
-    over = [title for call, title in CALLS.items() for accounts in ACCOUNTS
-            if call in "erjlct" and calls[call, accounts] > one_hash + copied]
-    print(f"Over one hash and the copying, {one_hash + copied:.1f}: {', '.join(dict.fromkeys(over)) or 'no other call'}.")
+    print(f"A call without a hash is to take one hash and the copying at most, {limit:.1f}; one that is over it is marked.")
+    for call in REPLIES:
+        hashes = calls[call, "3"] / one_hash
+        print(f"{CALLS[call].title}, to its one hash: {hashes:.2f}; at most {bounds.said(hashes, MOST_HASHES, AIM_HASHES)}")

@@ -13,7 +13,8 @@
 enum { COUNT = 9999, TEXT = 4096, STEPS = 10000, BLOCKS = 6500 };
 
 static const uint32_t counts[] = {0, 10, 100, 1000, COUNT};
-static const size_t lengths[] = {0, 64, 512, TEXT};
+/* on both sides of where the length takes a block of its own */
+static const size_t lengths[] = {0, 8, 55, 56, 64, 512, TEXT};
 
 static const char phrase[] = "This is a test.", seed[] = "test";
 static uint8_t text[TEXT];
@@ -21,31 +22,10 @@ static uint8_t text[TEXT];
 #define PHRASE_AND_SEED \
     (const uint8_t *)phrase, strlen(phrase), (const uint8_t *)seed, strlen(seed)
 
-typedef uint64_t generator(uint32_t count);
-typedef void hasher(const uint8_t *bytes, size_t len, uint8_t digest[16]);
-
-static uint64_t proved_generator(uint32_t count)
+static uint64_t proved_password(const uint8_t *its_phrase, size_t phrase_len,
+                                const uint8_t *its_seed, size_t seed_len, uint32_t count)
 {
-    return lift_password(PHRASE_AND_SEED, count).password;
-}
-
-static uint64_t plain_generator(uint32_t count)
-{
-    return plain_password(PHRASE_AND_SEED, count);
-}
-
-static uint64_t tuned_generator(uint32_t count)
-{
-    return tuned_password(PHRASE_AND_SEED, count);
-}
-
-static uint64_t heimdal_generator(uint32_t count)
-{
-    char key[8];
-    heimdal->md5->init(key, phrase, seed);
-    for (uint32_t n = 0; n < count; n++)
-        heimdal->md5->next(key);
-    return password_of_key((const unsigned char *)key);
+    return lift_password(its_phrase, phrase_len, its_seed, seed_len, count).password;
 }
 
 static void proved_md5(const uint8_t *bytes, size_t len, uint8_t digest[16])
@@ -53,61 +33,104 @@ static void proved_md5(const uint8_t *bytes, size_t len, uint8_t digest[16])
     lift_md5(bytes, len, digest, 16);
 }
 
-static void check_generators(void)
+/* It wants texts that end in NUL, as these do. */
+static uint64_t heimdal_password(const uint8_t *its_phrase, size_t phrase_len,
+                                 const uint8_t *its_seed, size_t seed_len, uint32_t count)
 {
-    for (uint32_t count = 0; count <= COUNT; count += 101) {
-        uint64_t password = proved_generator(count);
-        same(password == plain_generator(count), "generator, plain C");
-        same(password == tuned_generator(count), "generator, tuned C");
-        if (heimdal != NULL)
-            same(password == heimdal_generator(count), "generator, Heimdal");
+    char key[8];
+    (void)phrase_len, (void)seed_len;
+    heimdal->md5->init(key, (const char *)its_phrase, (const char *)its_seed);
+    for (uint32_t n = 0; n < count; n++)
+        heimdal->md5->next(key);
+    return password_of_key((const unsigned char *)key);
+}
+
+typedef struct {
+    const char *whose;
+    generator *password;
+    hasher *md5;
+} subject;
+
+/* Heimdal is the last, since it may not be there; its MD5 is not timed by itself. */
+static const subject subjects[] = {
+    {"proved", proved_password, proved_md5},
+    {"plain", plain_password, plain_md5},
+    {"gcc", gcc_password, gcc_md5},
+#ifdef WITH_CLANG
+    {"clang", clang_password, clang_md5},
+#endif
+    {"heimdal", heimdal_password, NULL},
+};
+enum { HASHERS = LENGTH_OF(subjects) - 1 };
+
+static size_t generators(void)
+{
+    return heimdal == NULL ? HASHERS : LENGTH_OF(subjects);
+}
+
+static void check_password(const subject *other, uint32_t count)
+{
+    same(other->password(PHRASE_AND_SEED, count) == proved_password(PHRASE_AND_SEED, count),
+         other->whose);
+}
+
+/* Counts from 0 to the last, and not each of them. */
+static void check_generator(const subject *other)
+{
+    for (uint32_t count = 0; count <= COUNT; count += 101)
+        check_password(other, count);
+}
+
+static void check_digests(const subject *other)
+{
+    for (size_t len = 0; len <= TEXT; len++) {
+        uint8_t its[16], proved[16];
+        other->md5(text, len, its);
+        proved_md5(text, len, proved);
+        same(memcmp(its, proved, 16) == 0, other->whose);
     }
 }
 
-static void check_digests(void)
+static void make_text(void)
 {
-    for (size_t len = 0; len <= TEXT; len++) {
-        uint8_t proved[16], plain[16], tuned[16];
-        proved_md5(text, len, proved);
-        plain_md5(text, len, plain);
-        tuned_md5(text, len, tuned);
-        same(memcmp(proved, plain, 16) == 0, "MD5, plain C");
-        same(memcmp(proved, tuned, 16) == 0, "MD5, tuned C");
-    }
+    for (size_t i = 0; i < TEXT; i++)
+        text[i] = (uint8_t)(i * 31 + 7);
 }
 
 void check_hashing(void)
 {
-    for (size_t i = 0; i < TEXT; i++)
-        text[i] = (uint8_t)(i * 31 + 7);
-    check_generators();
-    check_digests();
+    make_text();
+    for (size_t i = 1; i < generators(); i++) {
+        check_generator(&subjects[i]);
+        if (i < HASHERS)
+            check_digests(&subjects[i]);
+    }
 }
 
 /* The chain alone: a password at COUNT less one at count 0. */
-static void time_chain(const char *whose, generator *password)
+static void time_chain(const subject *one)
 {
     double start = now();
-    sink = password(0);
+    sink = one->password(PHRASE_AND_SEED, 0);
     double middle = now();
-    sink = password(COUNT);
-    timed("chain", whose, now() - middle - (middle - start), COUNT);
+    sink = one->password(PHRASE_AND_SEED, COUNT);
+    timed("chain", one->whose, now() - middle - (middle - start), COUNT);
 }
 
 /* One call at a count, the first hash and what is checked included. */
-static void time_generator(const char *whose, generator *password, uint32_t count)
+static void time_password(const subject *one, uint32_t count)
 {
     char what[32];
     uint32_t times = STEPS / (count + 1);
     double start = now();
     for (uint32_t i = 0; i < times; i++)
-        sink = password(count);
+        sink = one->password(PHRASE_AND_SEED, count);
     double end = now();
     snprintf(what, sizeof what, "generator-%u", (unsigned)count);
-    timed(what, whose, (end - start) / times, count);
+    timed(what, one->whose, (end - start) / times, count);
 }
 
-static void time_md5(const char *whose, hasher *md5, size_t len)
+static void time_digest(const subject *one, size_t len)
 {
     char what[32];
     uint8_t digest[16];
@@ -115,28 +138,47 @@ static void time_md5(const char *whose, hasher *md5, size_t len)
     size_t blocks = (len + 8) / 64 + 1, times = BLOCKS / blocks;
     double start = now();
     for (size_t i = 0; i < times; i++) {
-        md5(text, len, digest);
+        one->md5(text, len, digest);
         sink = digest[0];
     }
     double end = now();
     snprintf(what, sizeof what, "md5-%zu", len);
-    timed(what, whose, (end - start) / (double)times, blocks);
+    timed(what, one->whose, (end - start) / (double)times, blocks);
 }
 
-void time_hashing(void)
+static void time_chains(size_t round)
 {
-    time_chain("proved", proved_generator);
-    time_chain("plain", plain_generator);
-    time_chain("tuned", tuned_generator);
-    if (heimdal != NULL)
-        time_chain("heimdal", heimdal_generator);
-    for (size_t i = 0; i < LENGTH_OF(counts); i++) {
-        time_generator("proved", proved_generator, counts[i]);
-        time_generator("plain", plain_generator, counts[i]);
-    }
-    for (size_t i = 0; i < LENGTH_OF(lengths); i++) {
-        time_md5("proved", proved_md5, lengths[i]);
-        time_md5("plain", plain_md5, lengths[i]);
-    }
-    time_md5("tuned", tuned_md5, TEXT); /* beside the last two */
+    for (size_t k = 0; k < generators(); k++)
+        time_chain(&subjects[rotated(round, k, generators())]);
+}
+
+static void time_passwords(size_t round, uint32_t count)
+{
+    for (size_t k = 0; k < HASHERS; k++)
+        time_password(&subjects[rotated(round, k, HASHERS)], count);
+}
+
+static void time_digests(size_t round, size_t len)
+{
+    for (size_t k = 0; k < HASHERS; k++)
+        time_digest(&subjects[rotated(round, k, HASHERS)], len);
+}
+
+static void time_counts(size_t round)
+{
+    for (size_t i = 0; i < LENGTH_OF(counts); i++)
+        time_passwords(round, counts[rotated(round, i, LENGTH_OF(counts))]);
+}
+
+static void time_lengths(size_t round)
+{
+    for (size_t i = 0; i < LENGTH_OF(lengths); i++)
+        time_digests(round, lengths[rotated(round, i, LENGTH_OF(lengths))]);
+}
+
+void time_hashing(size_t round)
+{
+    time_chains(round);
+    time_counts(round);
+    time_lengths(round);
 }

@@ -5,13 +5,17 @@
 
 #include <string.h>
 
-#define F(x, y, z) (((x) & (y)) | (~(x) & (z)))
-#ifdef G_AS_SUM /* tuned_md5.c */
-#define G(x, y, z) (((x) & (z)) + ((y) & ~(z)))
+#ifdef STRONGEST /* strongest_md5.c has why */
+#define F(x, y, z) ((z) ^ ((x) & ((y) ^ (z))))
+#define G(x, y, z) (((y) & ~(z)) + ((x) & (z)))
+#define H(x, y, z) ((x) ^ ((y) ^ (z)))
+#define INLINED inline __attribute__((always_inline))
 #else
+#define F(x, y, z) (((x) & (y)) | (~(x) & (z)))
 #define G(x, y, z) (((x) & (z)) | ((y) & ~(z)))
-#endif
 #define H(x, y, z) ((x) ^ (y) ^ (z))
+#define INLINED
+#endif
 #define I(x, y, z) ((y) ^ ((x) | ~(z)))
 
 #define ROTATE(x, n) ((x) << (n) | (x) >> (32 - (n)))
@@ -26,7 +30,7 @@
     STEP(f, c, d, a, b, k2, s2, t2);                            \
     STEP(f, b, c, d, a, k3, s3, t3)
 
-static void compress(uint32_t state[4], const uint32_t m[16])
+static INLINED void compress(uint32_t state[4], const uint32_t m[16])
 {
     uint32_t a = state[0], b = state[1], c = state[2], d = state[3];
     FOUR(F, 0, 1, 2, 3, 7, 12, 17, 22, 0xd76aa478, 0xe8c7b756, 0x242070db, 0xc1bdceee);
@@ -59,7 +63,7 @@ static uint32_t word_at(const uint8_t *p)
     return (uint32_t)p[0] | (uint32_t)p[1] << 8 | (uint32_t)p[2] << 16 | (uint32_t)p[3] << 24;
 }
 
-static void compress_bytes(uint32_t state[4], const uint8_t *block)
+static INLINED void compress_bytes(uint32_t state[4], const uint8_t *block)
 {
     uint32_t m[16];
     for (int i = 0; i < 16; i++)

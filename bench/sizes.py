@@ -60,10 +60,8 @@ def table(library):
     print("Bytes of each function in a linked program, unused sections dropped, and of the stack"
           "\nit takes below its return address at most, over the inputs of stack.c.")
     print(f"{'':24} {'code':>10} {'read-only data':>16} {'stack':>10}")
-    for name in exported:
-        print(row(name, linked(library, [name]), empty, stack.get(name, "not run")))
-    for title, names in GROUPS.items():
-        print(row(title, linked(library, names), empty, ""))
+    print("\n".join(row(name, linked(library, [name]), empty, stack.get(name, "not run")) for name in exported))
+    print("\n".join(row(title, linked(library, names), empty, "") for title, names in GROUPS.items()))
     print(row("all of them", everything, empty, ""))
     print(f"Variables: {everything['variables'] - empty['variables']} bytes. "
           f"Called and not counted: {', '.join(symbols(library, 'U')) or 'nothing'}.")

@@ -105,6 +105,18 @@ void check_words(void)
     }
 }
 
+typedef struct {
+    const char *whose;
+    reader *read_words, *read_hex;
+    writer *write_words, *write_hex;
+} subject;
+
+/* Heimdal is the last, since it may not be there. */
+static const subject subjects[] = {
+    {"proved", proved_reader, proved_reader, proved_words_writer, proved_hex_writer},
+    {"heimdal", heimdal_words_reader, heimdal_hex_reader, heimdal_words_writer, heimdal_hex_writer},
+};
+
 static void time_reader(const char *what, const char *whose, reader *read,
                         const written_text texts[PASSWORDS])
 {
@@ -127,18 +139,17 @@ static void time_writer(const char *what, const char *whose, writer *write)
     sink = sum;
 }
 
-void time_words(void)
+static void time_subject(const subject *one)
 {
-    time_reader("words-read", "proved", proved_reader, words);
-    if (heimdal != NULL)
-        time_reader("words-read", "heimdal", heimdal_words_reader, words);
-    time_writer("words-written", "proved", proved_words_writer);
-    if (heimdal != NULL)
-        time_writer("words-written", "heimdal", heimdal_words_writer);
-    time_reader("hex-read", "proved", proved_reader, hex);
-    if (heimdal != NULL)
-        time_reader("hex-read", "heimdal", heimdal_hex_reader, hex);
-    time_writer("hex-written", "proved", proved_hex_writer);
-    if (heimdal != NULL)
-        time_writer("hex-written", "heimdal", heimdal_hex_writer);
+    time_reader("words-read", one->whose, one->read_words, words);
+    time_writer("words-written", one->whose, one->write_words);
+    time_reader("hex-read", one->whose, one->read_hex, hex);
+    time_writer("hex-written", one->whose, one->write_hex);
+}
+
+void time_words(size_t round)
+{
+    size_t there = heimdal == NULL ? 1 : LENGTH_OF(subjects);
+    for (size_t k = 0; k < there; k++)
+        time_subject(&subjects[rotated(round, k, there)]);
 }

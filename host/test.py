@@ -12,8 +12,8 @@ import time
 sys.dont_write_bytecode = True
 
 import harness  # noqa: E402
-from sections import believed, cards, challenges, commands, docs, house, numbers, paper, passwords  # noqa: E402
-from sections import promises, refused, replay, replies, selftest, terminal, tools  # noqa: E402
+from sections import believed, cards, challenges, commands, compared, docs, house, numbers, paper  # noqa: E402
+from sections import passwords, promises, refused, replay, replies, selftest, terminal, tools  # noqa: E402
 
 SECTIONS = [
     ("comparison can fail", selftest.comparison_can_fail),
@@ -21,6 +21,7 @@ SECTIONS = [
     ("comparison of the gate's commands can fail", selftest.gate_can_fail),
     ("checks of the house can fail", selftest.house_can_fail),
     ("checks of the lists can fail", selftest.lists_can_fail),
+    ("comparisons with others can fail", selftest.comparisons_can_fail),
     ("document 01's examples", paper.examples),
     ("recorded scripts", paper.scripts),
     ("RFC 2289, Appendix C", passwords.appendix_c),
@@ -51,6 +52,7 @@ SECTIONS = [
     ("the list of refusals", numbers.page),
     ("the must-fail edits' logs", refused.page),
     ("figures in README.md", docs.figures),
+    ("the table of others' programs", compared.table),
     ("the gate's command", commands.same_gate),
     ("ways to call make", commands.makes),
     ("tools that are missing", tools.missing),

@@ -5,6 +5,7 @@ import functools
 import os
 import pathlib
 import pwd
+import shutil
 import signal
 import subprocess
 
@@ -12,16 +13,13 @@ import harness
 
 HERE = pathlib.Path(__file__).resolve().parent
 ABSENT = 3  # the status of our small C programs where the library isn't installed
-# document 01's refusals, as far as they are answers here
-REFUSALS = {"13": "count over 9,999", "21": "another algorithm than md5", "22": "no such count",
-            "32": "check sum wrong", "60": "not in front", "61": "wrong reply"}
 
 # status is None where the time limit ended it; a signal's number is below 0
 Ended = collections.namedtuple("Ended", "status said")
 
 
 class NotShown(Exception):
-    """Why a case says nothing here, in a line."""
+    """Why the others' half says nothing here, in a line."""
 
 
 class Absent(NotShown):
@@ -31,29 +29,47 @@ class Absent(NotShown):
         super().__init__(f"Debian package {package} is not installed here")
 
 
+def say(line):
+    """A line of a case."""
+    print(f"    {line}", flush=True)
+
+
 def versions(*packages):
     """What Debian calls the installed versions, or Absent for the first that isn't there."""
-    return "with " + ", ".join(version(package) for package in packages)
+    return ", ".join(f"{package} {version(package)}" for package in packages)
 
 
 def version(package):
-    try:
-        done = subprocess.run(["dpkg-query", "-W", "-f", "${db:Status-Status} ${Version}", package],
-                              stdout=subprocess.PIPE, stderr=subprocess.DEVNULL, check=False)
-    except OSError:  # no Debian machine
-        raise Absent(package) from None
-    status, _, number = done.stdout.decode().partition(" ")
-    if status != "installed":
+    """The version and, in brackets, the kind of machine that it is for: of one for other machines beside it nothing is said."""
+    shown = dpkg("dpkg-query", "-W", "-f", "${db:Status-Status} ${Architecture} ${Version}\n", package)
+    kinds = ["all", *dpkg("dpkg", "--print-architecture").split()]
+    rows = [line.split(" ") for line in shown.splitlines()]
+    found = [f"{number} ({kind})" for status, kind, number in rows if status == "installed" and kind in kinds]
+    if not found:
         raise Absent(package)
-    return f"{package} {number}"
+    return found[0]
+
+
+def dpkg(*command):
+    """What Debian's package manager prints; nothing where there is none."""
+    try:
+        return subprocess.run(command, stdout=subprocess.PIPE, stderr=subprocess.DEVNULL, check=False).stdout.decode()
+    except OSError:
+        return ""
 
 
 def built(source):
     """One of the C programs beside this file; it finds the others' library when it starts."""
     harness.BUILT.mkdir(parents=True, exist_ok=True)
     program = harness.BUILT / f"compare-{pathlib.Path(source).stem}"
-    harness.run(["gcc", *harness.WARNINGS, "-O2", HERE / source, "-ldl", "-o", program])
+    harness.run([own_gcc(), *harness.WARNINGS, "-O2", HERE / source, "-ldl", "-o", program])
     return program
+
+
+def own_gcc():
+    """The gcc of this machine, whose libraries the others' are, also where the one for x86-64 comes first on the PATH."""
+    folders = [folder for folder in os.environ["PATH"].split(os.pathsep) if folder != str(harness.X86_64)]
+    return shutil.which("gcc", path=os.pathsep.join(folders)) or "gcc"
 
 
 # others' programs: each in a process group of its own, which is gone afterwards
@@ -113,20 +129,23 @@ def as_unprivileged():
 
 
 @functools.cache
-def driver():
-    """The functions of include/lift.h, built once for all cases."""
-    return harness.build("driver", ["host/driver.c", "host/lend.c"], harness.archive(), ["-O2"])
+def linked(name, *sources):
+    """A C program over the functions of include/lift.h, built once for all cases."""
+    return harness.build(name, sources, archive(), ["-O2"])
+
+
+@functools.cache
+def archive():
+    return harness.archive()
 
 
 def ours(lines):
     """What the functions of include/lift.h answer."""
-    return harness.asked(driver(), lines)
+    return harness.asked(linked("driver", "host/driver.c", "host/lend.c"), lines)
 
 
 def replay(lines):
-    """What program replay answers, for the table, which lift.h hasn't; None without the crate."""
-    if not (harness.ROOT / "crates" / "replay").is_dir():
-        return None
+    """What program replay answers, for the table, which lift.h hasn't."""
     harness.run(["rt", "check", "replay"])
     return harness.asked(harness.ROOT / "target" / "bin" / "replay", lines)
 
@@ -137,11 +156,5 @@ def hold(answers, claimed):
         raise harness.Failed(f"our answers are {answers}, claimed were {claimed}")
 
 
-def in_words(answer):
-    """`ok VALUES` or `no NUMBER` for people."""
-    kind, number, *_ = f"{answer} ".split(" ")
-    return answer[3:] if kind == "ok" else f"refused, {number}: {REFUSALS[number]}"
-
-
 def row(whose, said):
-    return f"  {whose:15} {said}"
+    return f"{whose:16} {said}"

@@ -1,10 +1,16 @@
 """That the comparison can fail: tests of the tests."""
 import pathlib
+import sys
 
 import harness
 import tidy
+from compare import claims
 from harness import Failed, call
-from sections import believed, commands, docs, house, numbers, promises, refused, terminal, tools
+from sections import believed, commands, compared, docs, house, numbers, promises, refused, terminal, tools
+
+sys.path.append(str(harness.ROOT / "bench"))
+
+import bounds  # noqa: E402
 
 
 def fails(check, *given):
@@ -143,3 +149,36 @@ def lists_can_fail(driver):
     if not all(found):
         raise Failed(f"of the {len(found)}, as they should be: {found}")
     return f"{len(found)} cases: what isn't so is reported, and nothing else"
+
+
+def outcomes():
+    """A case in each of its ways, and the status of a run with it: for a person, and where our half alone counts."""
+    claim = claims.Claim("a-case", "a package", "a day", "it fails", "we don't")
+    ways = [("we don't", "it fails"), ("we don't", None), ("we don't", "it doesn't"), ("we do", "it fails"), ("we do", None)]
+    came = [claims.outcome(claim, *way) for way in ways]
+    due = [claims.SEEN, claims.PASSED_OVER, claims.NOT_SEEN, claims.FAILED, claims.FAILED]
+    return [came == due, [claims.status([each], False) for each in came] == [0, 0, 1, 1, 1],
+            [claims.status([each], True) for each in came] == [0, 0, 0, 1, 1]]
+
+
+def readme_rows():
+    """A table that has what is stored, and three that haven't: another figure, a row missing, one too many."""
+    rows = [claims.Claim(name, "a package 1", "a day", "it fails", "refused") for name in ("one", "two")]
+    lines = [claims.readme_row(row) for row in rows]
+    tables = [lines, [lines[0], lines[1].replace("a day", "today")], lines[:1], [*lines, lines[1]]]
+    texts = ["\n".join(["before", claims.TABLE, "|---|---|---|---|", *table, "", "after"]) for table in tables]
+    return [not fails(compared.held, texts[0], rows), *(fails(compared.held, text, rows) for text in texts[1:])]
+
+
+def marks():
+    """A bound that is met, one met as printed, one that isn't, and an aim that isn't."""
+    return ["NOT MET" not in bounds.said(0.99, 1.0), "NOT MET" not in bounds.said(1.004, 1.0), "NOT MET" in bounds.said(1.01, 1.0),
+            bounds.said(0.3, 0.5, 0.25) == "0.50, met; aim 0.25, not met", bounds.said(0.2, 0.5, 0.25) == "0.50, met; aim 0.25, met"]
+
+
+def comparisons_can_fail(driver):
+    """What isn't so of the others' programs, of their table and of the benchmark's bounds is found."""
+    found = [*outcomes(), *readme_rows(), *marks()]
+    if not all(found):
+        raise Failed(f"of the {len(found)}, as they should be: {found}")
+    return f"{len(found)} cases: what isn't as claimed is reported, and nothing else"

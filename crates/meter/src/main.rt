@@ -1,4 +1,5 @@
 // Repeats one call of the login table, for the benchmark: the call's letter, 0, 1 or 3 for 0, 1 or 32 accounts, and how many thousand times.
+// Prints what the last table has: ports in line, the ticks of the turn, port 0's wrong run, port 3's shut ticks.
 use generator::chain::step;
 use generator::generate;
 use libc::STDIN_FILENO;
@@ -41,6 +42,48 @@ fn challenged(table: Table, port: u8) -> Table {
     Table { rooms, ports, line }
 }
 
+// Ports 1, 2 and 3 wait for that account.
+fn others_join(table: Table, id: u16) -> Table {
+    let first = login::join(table, 1, id).table;
+    let second = login::join(first, 2, id).table;
+    login::join(second, 3, id).table
+}
+
+// The port joins and types a wrong password.
+fn mistyped(table: Table, port: u8, id: u16) -> Table {
+    let joined = login::join(table, port, id).table;
+    login::reply(joined, port, b"0000000000000000").table
+}
+
+// The third wrong reply in a row shuts the port.
+fn shut(table: Table, port: u8, id: u16) -> Table {
+    let first = mistyped(table, port, id);
+    let second = mistyped(first, port, id);
+    mistyped(second, port, id)
+}
+
+// The table that a call finds: port 0 in front of three others; for Join without port 0; for the ticks of the letter u with the three shut.
+fn prepared(call: u8, table: Table, id: u16) -> Table {
+    match call {
+        b'e' | b'i' => table,
+        b'j' => others_join(table, id),
+        b'u' => {
+            let one = shut(table, 1, id);
+            let two = shut(one, 2, id);
+            let three = shut(two, 3, id);
+            login::join(three, 0, id).table
+        }
+        _ => {
+            let front = login::join(table, 0, id).table;
+            others_join(front, id)
+        }
+    }
+}
+
+fn is_tick(call: u8) -> bool {
+    (call == b'i') | (call == b't') | (call == b'u')
+}
+
 fn once(call: u8, table: Table, port: u8, id: u16) -> Table {
     let stored = [7u8; 8];
     match call {
@@ -52,18 +95,20 @@ fn once(call: u8, table: Table, port: u8, id: u16) -> Table {
         b'h' => login::reply(table, port, b"85C4 3EE0 3857 765B").table,
         b'w' => login::reply(table, port, b"FOWL KID MASH DEAD DUAL OAF").table,
         b'n' => login::renew(table, port, 99, b"dog2", &stored, b"85C4 3EE0 3857 765B").table,
-        b't' => login::tick(table),
+        b'i' | b't' | b'u' => login::tick(table),
         _ => table,
     }
 }
 
 // Each repetition's port comes from the table before it (0: a turn is at most 60, and a challenge starts with the letter o), so that none can be left out.
+// Ticks go on from the table before: the 60 of a turn, in the last of which the front leaves, and then those of the same turn again.
 fn repeat(call: u8, start: Table, id: u16, times: u64) -> Table {
+    let ticks = is_tick(call);
     let mut last = start;
     let mut k = 0;
     while k < times {
         let port = last.line.turn / 200;
-        let from = if call == b't' { last } else { start };
+        let from = if ticks & (k % 60 != 0) { last } else { start };
         last = once(call, from, port, id);
         k += 1;
     }
@@ -81,18 +126,22 @@ fn hashes(times: u64) -> u64 {
     p
 }
 
-// What is repeated: with how many accounts, the last of them in turn where the call is one of a turn.
+fn print_number(n: u64, after: &[u8]) {
+    io::print_decimal(STDOUT_FILENO, n);
+    io::write_all(STDOUT_FILENO, after);
+}
+
+// What is repeated: with how many accounts, the ports in line for the last of them.
 fn measure(call: u8, accounts: u16, times: u64) {
-    let mut start = table_of(accounts);
-    if (call != b'e') & (call != b'r') & (call != b'j') {
-        let joined = login::join(start, 0, accounts);
-        start = joined.table;
-    }
+    let start = prepared(call, table_of(accounts), accounts);
     let last = repeat(call, start, accounts, times);
-    io::print_decimal(STDOUT_FILENO, last.line.len as u64);
-    io::write_all(STDOUT_FILENO, b" ");
-    io::print_decimal(STDOUT_FILENO, last.line.turn as u64);
-    io::write_all(STDOUT_FILENO, b"\n");
+    let ports = last.ports;
+    let first = ports[0];
+    let fourth = ports[3];
+    print_number(last.line.len as u64, b" ");
+    print_number(last.line.turn as u64, b" ");
+    print_number(first.wrong as u64, b" ");
+    print_number(fourth.shut as u64, b"\n");
 }
 
 fn main() {

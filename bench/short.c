@@ -1,0 +1,76 @@
+/* Short texts and the shortest refusals, by the proved code alone: what a call
+ * takes where there is little to read or to write. */
+#include <string.h>
+
+#include "bench.h"
+#include "lift.h"
+
+enum { TIMES = 2000, ROOM = 32, COUNT = 9999 };
+
+#define SIXTEEN_BLANKS "                "
+#define SIXTY_FOUR_BLANKS SIXTEEN_BLANKS SIXTEEN_BLANKS SIXTEEN_BLANKS SIXTEEN_BLANKS
+
+/* An answer as one number: a refusal by itself, or what the call gives. */
+typedef uint64_t answer(const uint8_t *text, size_t len);
+
+static uint64_t reply_read(const uint8_t *text, size_t len)
+{
+    lift_reading r = lift_read_reply(text, len);
+    return r.refusal != 0 ? r.refusal : r.password;
+}
+
+static uint64_t challenge_read(const uint8_t *text, size_t len)
+{
+    lift_challenge c = lift_read_challenge(text, len);
+    return c.refusal != 0 ? c.refusal : c.used;
+}
+
+static uint64_t challenge_written(const uint8_t *seed, size_t len)
+{
+    uint8_t buf[ROOM];
+    lift_written w = lift_write_challenge(seed, len, COUNT, buf, sizeof buf);
+    return w.refusal != 0 ? w.refusal : w.written;
+}
+
+typedef struct {
+    const char *what, *text;
+    answer *call;
+    uint64_t due;
+} row;
+
+static const row rows[] = {
+    {"reply-empty", "", reply_read, 33},
+    {"reply-blank", SIXTY_FOUR_BLANKS SIXTY_FOUR_BLANKS, reply_read, 33},
+    {"reply-words", "A A A A A A", reply_read, 0},
+    {"reply-hex", "85c43ee03857765b", reply_read, 0x85c43ee03857765b},
+    {"challenge-empty", "", challenge_read, 20},
+    {"challenge-short", "otp-md5 0 t\n", challenge_read, 12},
+    {"challenge-long", "otp-md5 9999 ABCDEFGHijkl6789\n", challenge_read, 30},
+    {"written-short", "t", challenge_written, 15},
+    {"written-long", "ABCDEFGHijkl6789", challenge_written, 30},
+};
+
+static uint64_t answer_to(const row *one)
+{
+    return one->call((const uint8_t *)one->text, strlen(one->text));
+}
+
+void check_short(void)
+{
+    for (size_t i = 0; i < LENGTH_OF(rows); i++)
+        same(answer_to(&rows[i]) == rows[i].due, rows[i].what);
+}
+
+static void time_row(const row *one)
+{
+    double start = now();
+    for (int i = 0; i < TIMES; i++)
+        sink = answer_to(one);
+    timed(one->what, "proved", now() - start, TIMES);
+}
+
+void time_short(size_t round)
+{
+    for (size_t k = 0; k < LENGTH_OF(rows); k++)
+        time_row(&rows[rotated(round, k, LENGTH_OF(rows))]);
+}
