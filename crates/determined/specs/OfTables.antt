@@ -1,6 +1,6 @@
 -- The promises of `line`, `port`, `accounts`, `table`, `login` and `turns` determine their results: lines, accounts and tables as far as their
 -- bytes mean something.
-use mathlib.Core.Path.{_≡_, sym, _∙_}
+use mathlib.Core.Path.{sym, _∙_}
 use denote.Ref.{now}
 use Rattle.line.proofs.fresh.Reads as line-fresh
 use Rattle.line.proofs.join.Reads as line-join

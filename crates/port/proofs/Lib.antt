@@ -1,3 +1,3 @@
 -- What the proofs of `port`'s functions share.
 pub mod Lent
-pub mod Lending
+pub mod Handed

@@ -9,14 +9,65 @@ use lib.Dec.{T as Holds}
 use mir.Syntax.{Fn, local, valueLocal, memorySlot, tyUnit, tyRef, erased, mut, named, assign, place, rvOpd, addrOf, copy, call, seq, return}
 use mir.Val.{Val, vptr, WT, hasTy}
 use base.Logic.{SProp, ent, sep, emp, via, fst∗, id⊢}
-use base.Fml.{GName, ftrue, fsep, fat, flft, fres, flent}
+use base.Fml.{GName, Fml, ftrue, fsep, fat, flft, fres, flent}
 use prog.Routine.{Name}
 use prog.Wp.{Heap, Calls, Loops, WpFn, Tables}
 use ghost.Atoms.{Atoms, sem}
 use contract.Monad.{fact}
-use types.Kit.{Given, ‵, raw, _⊛_, some, later, _$_, _∵_, !, qed, by, move, keep, use1, use2, use3, split, join, pick, fsplit, fjoin, fpick, fpack, feqL, suffices, frame, await, done}
+use types.Kit.{
+  Given,
+  ‵,
+  raw,
+  _⊛_,
+  some,
+  later,
+  _$_,
+  _∵_,
+  !,
+  qed,
+  by,
+  move,
+  keep,
+  use1,
+  use2,
+  use3,
+  split,
+  join,
+  pick,
+  fsplit,
+  fjoin,
+  fpick,
+  fpack,
+  feqL,
+  suffices,
+  frame,
+  await,
+  done,
+}
 use types.Tokens.{lft-new, lft-end}
-use types.Run.{look, init, forget, stop, from, load, and-then, no-more, land, of-opd, addr, assigns, returns, enter, alloc1, alloc0, params1, pass1, pass0, free1, free0}
+use types.Run.{
+  look,
+  init,
+  forget,
+  stop,
+  from,
+  load,
+  and-then,
+  no-more,
+  land,
+  of-opd,
+  addr,
+  assigns,
+  returns,
+  enter,
+  alloc1,
+  alloc0,
+  params1,
+  pass1,
+  pass0,
+  free1,
+  free0,
+}
 use types.SemTy.{Body}
 use sound.WpLaws.{FmC, fmOf, WpFn-mono}
 use denote.RattleType.{owns}
@@ -71,6 +122,13 @@ module _ (stepped : Port → Port) (#lent : Name) where
     abbrev to-lent : ℕ → ℕ → GName → Port → Lends .Ghost
     to-lent α l δ h = (((α ∷ [], tt), (fullShare, tt), tt, (record { ptr = (l, 0); name = δ; now = h }, tt), (vptr l 0 ∷ [], tt)), tt)
 
+    -- the reference, and what its lender keeps
+    abbrev reference : ℕ → ℕ → GName → Port → Fml
+    reference α l δ h = MutRef (named 0) (α ∷ []) T.the-row .own (record { ptr = (l, 0); name = δ; now = h }) (vptr l 0 ∷ [])
+
+    abbrev aside : ℕ → ℕ → GName → Fml
+    aside α l δ = flent (α ∷ []) (Body (mem T.the-row) l 0 δ)
+
   module _ {M : Type 1} (𝓤 : URA M) (H : Heap 𝓤) (A : Atoms 𝓤) (W : Given 𝓤 H A) (h : Port) where
     abbrev Post : Val → SProp 𝓤
     Post = walkOf 𝓤 H A by-value stayed (step-clauses stepped #lent 𝓤 H A) .post ((tt, tt, tt, (h, tt), (mach h ∷ [], tt)), tt)
@@ -78,16 +136,16 @@ module _ (stepped : Port → Port) (#lent : Name) where
     exits : (r : Port) → r ≡ stepped h → Is T.the-row r (mach r ∷ []) → ent 𝓤 (sem 𝓤 H A (T.the-row .own h (mach h ∷ []))) (Post (mach r))
     exits r e is =
         qed W (‵ (T.the-row .own h (mach h ∷ [])) ∷ []) ∵
-        suffices ! _ (ends-at 𝓤 H A by-value stayed (step-clauses stepped #lent 𝓤 H A) W ((tt, tt, tt, (h, tt), (mach h ∷ [], tt)), tt) (mach r) r (tt, tt) (tt, tt)) $
+        suffices ! _ (ends-at 𝓤 H A by-value stayed (step-clauses stepped #lent 𝓤 H A) W
+        ((tt, tt, tt, (h, tt), (mach h ∷ [], tt)), tt) (mach r) r (tt, tt) (tt, tt)) $
         says ! e $ nothing ! $ move ! (1 ∷ 0 ∷ []) $ fjoin ! $
         owned ! T.the-row (Is T.the-row) (LL.makes T.the-type T′.the-plain 𝓤 H A) r _ is $ move ! (1 ∷ 0 ∷ []) $ nothing ! $ done !
 
     goes : (α l : ℕ) (δ : GName)
-        → ent 𝓤 (sep 𝓤 (A .lft (α ∷ []) fullShare) (sem 𝓤 H A (MutRef (named 0) (α ∷ []) T.the-row .own (record { ptr = (l, 0); name = δ; now = h }) (vptr l 0 ∷ []))))
-        (Lends 𝓤 H A .pre (to-lent 𝓤 H A α l δ h))
+        → ent 𝓤 (sep 𝓤 (A .lft (α ∷ []) fullShare) (sem 𝓤 H A (reference 𝓤 H A α l δ h))) (Lends 𝓤 H A .pre (to-lent 𝓤 H A α l δ h))
     goes α l δ =
-        qed W (‵ (flft (α ∷ []) fullShare) ∷ ‵ (MutRef (named 0) (α ∷ []) T.the-row .own (record { ptr = (l, 0); name = δ; now = h }) (vptr l 0 ∷ [])) ∷ []) ∵
-        nothing ! $ move ! (1 ∷ 0 ∷ []) $ join ! $ move ! (1 ∷ []) $ nothing ! $ move ! (1 ∷ 0 ∷ []) $ join ! $ move ! (1 ∷ 0 ∷ []) $ join ! $ frame ! $ done !
+        qed W (‵ (flft (α ∷ []) fullShare) ∷ ‵ (reference 𝓤 H A α l δ h) ∷ []) ∵ nothing ! $ move ! (1 ∷ 0 ∷ []) $ join ! $
+        move ! (1 ∷ []) $ nothing ! $ move ! (1 ∷ 0 ∷ []) $ join ! $ move ! (1 ∷ 0 ∷ []) $ join ! $ frame ! $ done !
 
     module _ (C : Calls 𝓤 H) (Λ : Loops 𝓤 H) (fm : FmC 𝓤 H (W .laws) C) (known : Triple 𝓤 (C #lent) (Lends 𝓤 H A)) where
       walk : Is T.the-row h (mach h ∷ []) → Holds (hasTy T′.mir (mach h)) × WT (mach h)
@@ -103,7 +161,7 @@ module _ (stepped : Port → Port) (#lent : Name) where
           owned ! T.the-row (Is T.the-row) (LL.makes T.the-type T′.the-plain 𝓤 H A) h _ g $ move ! (1 ∷ 0 ∷ []) $ fjoin ! $
           fpack ! _ (λ us. fsep (cellAt fullShare (T.the-row .mir) us l₂ 0) (T.the-row .own h us)) (mach h ∷ []) $
           lft-new ! tt (λ α. move ! (1 ∷ []) $
-          use1 W (later (some (λ (δ : GName). ‵ (MutRef (named 0) (α ∷ []) T.the-row .own (record { ptr = (l₂, 0); name = δ; now = h }) (vptr l₂ 0 ∷ [])) ⊛ ‵ (flent (α ∷ []) (Body (mem T.the-row) l₂ 0 δ)))))
+          use1 W (later (some (λ (δ : GName). ‵ (reference 𝓤 H A α l₂ δ h) ⊛ ‵ (aside 𝓤 H A α l₂ δ))))
           (lends-ref 𝓤 H A W T.the-row (named 0) (α ∷ []) h l₂ 0) $ await ! tt $ pick ! (λ δ. split ! $ move ! (2 ∷ 0 ∷ []) $
           use2 W (raw (Lends 𝓤 H A .pre (to-lent 𝓤 H A α l₂ δ h))) (goes α l₂ δ) $
           calls-at ! fm (Lends 𝓤 H A) known (to-lent 𝓤 H A α l₂ δ h) (and-then ! (load ! (from ! (stop !)) (look ! 2 refl)) (no-more !)) (λ v.
@@ -113,9 +171,12 @@ module _ (stepped : Port → Port) (#lent : Name) where
           move ! (2 ∷ []) $ split ! $ split ! $ move ! (2 ∷ []) $ feqL ! (λ u.
           land ! (from ! (stop !)) (init ! 7 refl (subst (λ (y : Val). Holds (hasTy tyUnit y) × WT y) (sym (ap only u)) (tt, tt))) $
           -- the lifetime is ended, and the record taken back as it was left
-          lft-end ! tt $ move ! (0 ∷ 4 ∷ 2 ∷ []) $ use3 W (later (‵ (partAt T.the-row fullShare (ws .0) l₂ 0))) (ref-back 𝓤 H A W T.the-row (α ∷ []) δ (ws .0) l₂ 0) $ await ! tt $
-          fpick ! (λ vs. fsplit ! $ spelt ! T.the-row (Is T.the-row) (shows 𝓤 H A T.the-row) (LL.vals T.the-type T′.the-laws) (LL.tells T.the-type T′.the-laws) fullShare (ws .0) vs l₂ 0 $
-          move ! (1 ∷ []) $ peeks ! T.the-row (Is T.the-row) (shows 𝓤 H A T.the-row) (ws .0) (LL.vals T.the-type T′.the-laws (ws .0)) (λ is. move ! (1 ∷ 0 ∷ []) $
+          lft-end ! tt $ move ! (0 ∷ 4 ∷ 2 ∷ []) $
+          use3 W (later (‵ (partAt T.the-row fullShare (ws .0) l₂ 0))) (ref-back 𝓤 H A W T.the-row (α ∷ []) δ (ws .0) l₂ 0) $ await ! tt $
+          fpick ! (λ vs. fsplit ! $ spelt ! T.the-row (Is T.the-row) (shows 𝓤 H A T.the-row) (LL.vals T.the-type T′.the-laws)
+          (LL.tells T.the-type T′.the-laws) fullShare (ws .0) vs l₂ 0 $
+          move ! (1 ∷ []) $ peeks ! T.the-row (Is T.the-row) (shows 𝓤 H A T.the-row) (ws .0) (LL.vals T.the-type T′.the-laws (ws .0)) (λ is.
+          move ! (1 ∷ 0 ∷ []) $
           use1 W (‵ (fat fullShare T′.mir l₂ 0 (mach (ws .0)))) (W .laws .raw-at fullShare T′.mir l₂ 0 (mach (ws .0))) $
           assigns ! (of-opd ! (load ! (from ! (stop !)) (look ! 0 refl))) (from ! (stop !))
           (init ! 11 refl (LL.lawful T.the-type T′.the-laws 𝓤 H A W .typed (ws .0) _ is .0)) $
@@ -124,16 +185,16 @@ module _ (stepped : Port → Port) (#lent : Name) where
           move ! (3 ∷ 4 ∷ []) $ free1 ! $ free0 ! $ keep ! (4 ∷ []) $ fsplit ! $ keep ! (0 ∷ []) $ by ! (exits (ws .0) e is)))))))))))))))
 
   module _ {M : Type 1} (𝓤 : URA M) (H : Heap 𝓤) (A : Atoms 𝓤) (W : Given 𝓤 H A) where
-    lending-walks : (C : Calls 𝓤 H) (Λ : Loops 𝓤 H) → FmC 𝓤 H (W .laws) C → Triple 𝓤 (C #lent) (Lends 𝓤 H A)
+    handed-walks : (C : Calls 𝓤 H) (Λ : Loops 𝓤 H) → FmC 𝓤 H (W .laws) C → Triple 𝓤 (C #lent) (Lends 𝓤 H A)
         → Walks 𝓤 H A by-value stayed (WpFn 𝓤 H C Λ function) (step-clauses stepped #lent 𝓤 H A)
-    lending-walks C Λ fm known = walked 𝓤 H A by-value stayed (step-clauses stepped #lent 𝓤 H A) (WpFn 𝓤 H C Λ function)
+    handed-walks C Λ fm known = walked 𝓤 H A by-value stayed (step-clauses stepped #lent 𝓤 H A) (WpFn 𝓤 H C Λ function)
         (λ κs. (LL.vals T.the-type T′.the-laws, tt)) (λ κs. (LL.tells T.the-type T′.the-laws, tt))
         (λ κs qs bounds a g are. via 𝓤 _ (fst∗ 𝓤 _ (emp 𝓤))
         (walk 𝓤 H A W (a .0) C Λ fm known (are .0) (LL.lawful T.the-type T′.the-laws 𝓤 H A W .typed (a .0) _ (are .0) .0)))
 
-  pub lending-meets : {M : Type 1} (𝓤 : URA M) (H : Heap 𝓤) (A : Atoms 𝓤) (W : Given 𝓤 H A) (𝓣 : Tables 𝓤 H)
+  pub handed-meets : {M : Type 1} (𝓤 : URA M) (H : Heap 𝓤) (A : Atoms 𝓤) (W : Given 𝓤 H A) (𝓣 : Tables 𝓤 H)
       → Triple 𝓤 (𝓣 .C #lent) (Lends 𝓤 H A)
       → Meets 𝓤 H A (by-value .signature) (WpFn 𝓤 H (𝓣 .C) (𝓣 .Λ) function) (closing 𝓤 H A by-value (step-clauses stepped #lent 𝓤 H A))
-  lending-meets 𝓤 H A W 𝓣 known = walk-meets 𝓤 H A by-value stayed W (goes-none 𝓤 H A W 0 (λ _. T.the-row) yes (λ κs x f. refl), tt)
+  handed-meets 𝓤 H A W 𝓣 known = walk-meets 𝓤 H A by-value stayed W (goes-none 𝓤 H A W 0 (λ _. T.the-row) yes (λ κs x f. refl), tt)
       (step-clauses stepped #lent 𝓤 H A) (WpFn 𝓤 H (𝓣 .C) (𝓣 .Λ) function) (WpFn-mono 𝓤 H (W .laws) 𝓣 function)
-      (lending-walks 𝓤 H A W (𝓣 .C) (𝓣 .Λ) (fmOf 𝓤 H (W .laws) 𝓣) known)
+      (handed-walks 𝓤 H A W (𝓣 .C) (𝓣 .Λ) (fmOf 𝓤 H (W .laws) 𝓣) known)
