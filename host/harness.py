@@ -27,10 +27,9 @@ class Failed(Exception):
 
 
 def typed(**more):
-    """The environment of a command that a person types: without what a make around this test hands on, and where `gcc` is for x86-64."""
+    """The environment of a command that a person types: without what a make around this test hands on."""
     of_make = {"MAKEFLAGS", "MAKELEVEL", "MFLAGS", "GNUMAKEFLAGS", "MAKEOVERRIDES", "MAKE_TERMERR", "MAKE_TERMOUT"}
-    mine = {name: value for name, value in os.environ.items() if name not in of_make}
-    return {**mine, "PATH": mine["PATH"] if NATIVE else f"{X86_64}:{mine['PATH']}", **more}
+    return {**{name: value for name, value in os.environ.items() if name not in of_make}, **more}
 
 
 def runs(command):
