@@ -90,7 +90,7 @@ empty-after s r none (Call.Reply port text) = reply-nobody s none port text .1
 empty-after s r none (Call.Renew port count seed password text) = renew-nobody s none port count seed password text .1
 empty-after s r none Call.Tick = tick-cools s (made s r) none
 
--- "A table .. that no calls could make is still answered": there a port may be in line for an account that isn't there. Leave takes it out,
+-- "A table .. that no calls could make is still answered": there a port may be in line for an account that isn't there. Leave is done,
 -- and Challenge, Reply and Renew answer 60, or 54 in front.
 abbrev pub inTurn : ℕ → State → Answer
 inTurn port s = checkedAnswer (inOrder (portKnown port ∷ inLine port s ∷ inFront port s ∷ Checked.Refused Refusal.AccountMissing ∷ []))

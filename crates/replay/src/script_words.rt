@@ -176,7 +176,7 @@ pub fn number(given: Given, k: usize) -> u64
     numbers[k]
 }
 
-// A call's numbers are within the limits of their kinds, so each of these hands its number on as it is.
+// A call's numbers are within the limits of their kinds, so `short` hands its number on as it is.
 
 // An id, a count, a number of lines.
 pub fn short(given: Given, k: usize) -> u16
