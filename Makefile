@@ -35,7 +35,7 @@ soak:
 	$(call needs,rt python3)
 	@host/prove replay && python3 host/soak.py $(N) $(SEED)
 
-# Ratios to plain C and to Heimdal's library, in one run.
+# Ratios to the strongest C and to Heimdal's library, in one run; sizes.
 bench:
 	$(call needs,rt gcc python3)
 	@host/prove meter panel && python3 bench/bench.py

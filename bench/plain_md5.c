@@ -19,8 +19,8 @@
 #define I(x, y, z) ((y) ^ ((x) | ~(z)))
 
 #define ROTATE(x, n) ((x) << (n) | (x) >> (32 - (n)))
-#define STEP(f, a, b, c, d, k, s, t) \
-    (a) += f(b, c, d) + m[k] + (t);  \
+#define STEP(f, a, b, c, d, k, s, t)      \
+    (a) = ((a) + m[k] + (t)) + f(b, c, d); \
     (a) = ROTATE(a, s) + (b)
 
 /* Four steps with the four shifts of a round. */

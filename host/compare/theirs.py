@@ -5,7 +5,6 @@ import functools
 import os
 import pathlib
 import pwd
-import shutil
 import signal
 import subprocess
 
@@ -62,14 +61,8 @@ def built(source):
     """One of the C programs beside this file; it finds the others' library when it starts."""
     harness.BUILT.mkdir(parents=True, exist_ok=True)
     program = harness.BUILT / f"compare-{pathlib.Path(source).stem}"
-    harness.run([own_gcc(), *harness.WARNINGS, "-O2", HERE / source, "-ldl", "-o", program])
+    harness.run(["gcc", *harness.WARNINGS, "-O2", HERE / source, "-ldl", "-o", program])
     return program
-
-
-def own_gcc():
-    """The gcc of this machine, whose libraries the others' are, also where the one for x86-64 comes first on the PATH."""
-    folders = [folder for folder in os.environ["PATH"].split(os.pathsep) if folder != str(harness.X86_64)]
-    return shutil.which("gcc", path=os.pathsep.join(folders)) or "gcc"
 
 
 # others' programs: each in a process group of its own, which is gone afterwards

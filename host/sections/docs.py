@@ -112,6 +112,8 @@ def gate_figures():
 def figures(driver):
     """The README's figures are the gate's."""
     counted = gate_figures()
+    if counted["promised"] + counted["safe"] != counted["functions"]:
+        raise Failed(f"{counted['promised']} functions with a promise and {counted['safe']} without, {counted['functions']} proved")
     line = ("{crates} crates, {functions} functions proved, {promised} of them with a promise and {safe}, all of programs, safe "
             "and ending alone; {edits} wrong edits refused, and in them {wrong} wrong functions; "
             "{axioms} functions of the C library assumed (`read` and `write`, in the programs alone)").format(**counted)

@@ -5,6 +5,7 @@ import scripts
 from harness import ROOT, Failed
 
 HEADER, CODE, GUIDE = (ROOT / path for path in ("include/lift.h", "crates/refusal/src/lib.rt", "docs/GUIDE.md"))
+CHANGES = ROOT / "docs" / "CHANGES.md"
 
 
 def in_header(text):
@@ -35,7 +36,16 @@ def same(header, code, guide):
     return len(listed)
 
 
+def version(header, changes):
+    """LIFT_VERSION is n after change request R-n, by the headings of docs/CHANGES.md, and 0 before the first."""
+    said = re.findall(r"^#define LIFT_VERSION (\d+)$", header, re.M)
+    due = max([0, *map(int, re.findall(r"^#+ .*\bR-(\d+)\b", changes, re.M))])
+    if said != [str(due)]:
+        raise Failed(f"lift.h: LIFT_VERSION is {said}, and should be {due}")
+
+
 def page(driver):
-    """The three lists."""
+    """The three lists, and the header's version."""
     count = same(*(path.read_text() for path in (HEADER, CODE, GUIDE)))
+    version(HEADER.read_text(), CHANGES.read_text() if CHANGES.exists() else "")
     return f"{count} refusals, with one name and number in lift.h, in crate refusal and in docs/GUIDE.md: all of document 01's"

@@ -39,6 +39,8 @@ def changed(crate, changes):
     sources, found = {}, set()
     for file, old, new in changes:
         source = sources.get(file) or (CRATES / crate / file).read_text()
+        if source.count(old) != 1:
+            raise Failed(f"{crate}: {file} has the old text {source.count(old)} times: {old}")
         if file.startswith("src/"):
             found.add(function_at(crate, file, source, source.index(old)))
         sources[file] = source.replace(old, new)

@@ -1,4 +1,4 @@
-"""What docs/GUIDE.md has a person type at a terminal: each such block is typed at one, and shows all that is seen there."""
+"""What docs/GUIDE.md has a person type at a terminal: each such block is typed at one, and shows all that is seen there but standard error."""
 import os
 import pty
 import re

@@ -74,6 +74,18 @@ def proving(folder, status):
     return before, after.splitlines(), printed, child.returncode
 
 
+def by_rt():
+    """host/prove with rt itself, on a repository of one small crate: its line has the words that the stand-in has."""
+    with tempfile.TemporaryDirectory() as name:
+        folder = pathlib.Path(name)
+        (folder / "crates.txt").write_text("one:\n")
+        put(folder / "crates" / "one" / "src" / "lib.rt", "pub fn one() -> u8 {\n    1\n}\n")
+        done = subprocess.run([copied(folder, "host/prove"), "one"], timeout=300, env=typed(), stdin=subprocess.DEVNULL,
+                              stdout=subprocess.PIPE, stderr=subprocess.PIPE, text=True)
+    if done.returncode or done.stdout or not re.search(r"^proved: 1 of 1, one \(\d+ s\)$", done.stderr, re.M):
+        raise Failed(f"host/prove on one crate: status {done.returncode}, {done.stdout!r}, {done.stderr!r}")
+
+
 def progress(driver):
     """A line for each crate as soon as it is proved; nothing on standard output; and where rt fails, all that it said."""
     with tempfile.TemporaryDirectory() as name:
@@ -85,7 +97,8 @@ def progress(driver):
             found = proving(folder, status)
             if found != (BEFORE, after, "", status):
                 raise Failed(f"host/prove on an rt that ends with {status}: {found}")
-    return f"{len(BEFORE + AFTER)} lines from host/prove, each as soon as rt has said it; all of rt's own where it fails"
+    by_rt()
+    return f"{len(BEFORE + AFTER)} lines from host/prove, each as soon as rt has said it; all of rt's own where it fails; the same with rt itself"
 
 
 def under(name, crates):
