@@ -9,18 +9,20 @@
 #define F(x, y, z) ((z) ^ ((x) & ((y) ^ (z))))
 #define G(x, y, z) (((y) & ~(z)) + ((x) & (z)))
 #define H(x, y, z) ((x) ^ ((y) ^ (z)))
+#define SUM(a, f, x, t) (((a) + (x) + (t)) + (f))
 #define INLINED inline __attribute__((always_inline))
 #else
 #define F(x, y, z) (((x) & (y)) | (~(x) & (z)))
 #define G(x, y, z) (((x) & (z)) | ((y) & ~(z)))
 #define H(x, y, z) ((x) ^ (y) ^ (z))
+#define SUM(a, f, x, t) ((a) + (f) + (x) + (t))
 #define INLINED
 #endif
 #define I(x, y, z) ((y) ^ ((x) | ~(z)))
 
 #define ROTATE(x, n) ((x) << (n) | (x) >> (32 - (n)))
-#define STEP(f, a, b, c, d, k, s, t)      \
-    (a) = ((a) + m[k] + (t)) + f(b, c, d); \
+#define STEP(f, a, b, c, d, k, s, t)   \
+    (a) = SUM(a, f(b, c, d), m[k], t); \
     (a) = ROTATE(a, s) + (b)
 
 /* Four steps with the four shifts of a round. */

@@ -25,7 +25,8 @@
  *     higher count takes longer, and so may one text than another.
  *   - That nothing stays behind. A call leaves what it used of the stack as it
  *     is, and that may hold the pass-phrase and passwords. A host that minds
- *     clears that much stack afterwards: docs/GUIDE.md has the bytes.
+ *     clears it afterwards; docs/GUIDE.md has how much it was on the inputs
+ *     that were tried, which is no bound.
  *   - Another processor than x86-64: it is all that the Rattle kit compiles
  *     for today. On Arm the functions are proved, and can't be linked yet.
  */
