@@ -91,8 +91,8 @@ ring-starts M long =
       within = omega arith;
       long = long;
       held = λ j h. (let place : (0 + j) % 16 ≡ j = omega arith in
-      let word : j ≡ 0 + j = omega arith in
-      ap (λ (i : ℕ). getD M i 0) place ∙ sym (scheduled-first M j h) ∙ ap (scheduled M) word);
+          let word : j ≡ 0 + j = omega arith in
+          ap (λ (i : ℕ). getD M i 0) place ∙ sym (scheduled-first M j h) ∙ ap (scheduled M) word);
     }
 
 module _ {M w : List ℕ} {t : ℕ} (sofar : Ring M w t) where

@@ -1,53 +1,43 @@
+-- `registers` meets its promise: the blocks before j are taken in.
+use Prim.Native.Nat.{_-_, _≤_}
+use mathlib.Core.Path.{_≡_, refl, ap, ap₂, _∙_}
+use borrow.Author.Needs.{needs}
+use native.Mathlib.Omega.{arith}
+use native.Mathlib.Numerals.{add-one}
+use lib.ListN.{length}
+use Rattle.digests.specs.declared.Order.{Order}
+use Rattle.digests.specs.Padding.{blocks, absorbed}
+use Rattle.digests.specs.Sha1.{K, initial, compressed, hashValue}
 use Rattle.sha1.proofs.compress.registers.Statement.{statement}
 use Rattle.sha1.proofs.compress.registers.Tie as tie
-use Rattle.sha1.proofs.compress.registers.Reads as reads
-use Rattle.sha1.proofs.compress.registers.Lts as lts
-use Rattle.block.proofs.block.Reads as block-reads
-use Rattle.block.proofs.count.Reads as count-reads
-use Rattle.sha1.proofs.compress.compress.Reads as compress-reads
-use Rattle.sha1.proofs.compress.initial.Reads as initial-reads
 
 abbrev Inv-loop : tie.InvT-loop
-Inv-loop m h₀ n j₀ h j = ?
+Inv-loop m h₀ n j₀ h j = (j ≤ n) × (h ≡ absorbed Order.Big compressed initial m j)
 
 abbrev μ-loop : tie.MeasureT-loop
-μ-loop m h₀ n j₀ h j = ?
+μ-loop m h₀ n j₀ h j = n - j
 
--- src/compress.rt:92:9
-initial-requires : tie.Need-initial-requires Inv-loop μ-loop
-initial-requires c κs = ?
-
--- src/compress.rt:93:9
-count-requires : tie.Need-count-requires Inv-loop μ-loop
-count-requires c κs = ?
-
--- src/compress.rt:95:5
 loop-holds : tie.Need-loop-holds Inv-loop μ-loop
-loop-holds c = ?
+unfolding absorbed
+loop-holds c = (omega arith, c .before .initial .ensures)
 
--- src/compress.rt:96:33
-block-requires : tie.Need-block-requires Inv-loop μ-loop
-block-requires c κs = ?
-
--- src/compress.rt:96:9
 compress-requires : tie.Need-compress-requires Inv-loop μ-loop
-compress-requires c κs = ?
+unfolding K
+compress-requires c κs = refl
 
--- src/compress.rt:97:9
-add-j : tie.Need-add-j Inv-loop μ-loop
-add-j c = ?
-
--- src/compress.rt:95:5
-loop-less : tie.Need-loop-less Inv-loop μ-loop
-loop-less c = ?
-
--- src/compress.rt:95:5
 loop-again : tie.Need-loop-again Inv-loop μ-loop
-loop-again c = ?
+unfolding absorbed
+loop-again c = (
+  omega arith,
+  rw add-one (c .compress .ensures ∙ ap₂ compressed (c .before .block .ensures) (c .before .before .before .loop .inv .1)),
+)
 
--- src/compress.rt:88:1
 returns : tie.Need-returns Inv-loop μ-loop
-returns c = ?
+unfolding hashValue
+returns c =
+    let m = c .before .before .before .before .before .args .m .now in
+    let all : c .before .loop .j ≡ blocks (length m) = omega (arith, c .before .before .count .ensures) in
+    c .before .loop .inv .1 ∙ ap (absorbed Order.Big compressed initial m) all
 
 pub registers-spec : {M : Type 1} → statement M
 registers-spec =
@@ -55,12 +45,12 @@ registers-spec =
     (tie.spec
     Inv-loop
     μ-loop
-    initial-requires
-    count-requires
+    (λ c κs. search needs)
+    (λ c κs. search needs)
     loop-holds
-    block-requires
+    (λ c κs. search needs)
     compress-requires
-    add-j
-    loop-less
+    (λ c. search needs)
+    (λ c. search needs)
     loop-again
     returns)
