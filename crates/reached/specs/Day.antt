@@ -27,7 +27,7 @@ pub record SteppedDown (old new : Room) : Type 0 where
   pub same-id : new .id ≡ old .id
   pub same-seed : new .seed ≡ old .seed
   pub count-lower : new .count + 1 ≡ old .count
-  pub old-is-hash : old .password ≡ hash Algorithm.md5 (bytesOf (new .password))
+  pub old-is-hash : old .password ≡ hash (accountOf (turnId s) s .algorithm) (bytesOf (new .password))
 
 -- The port's reply with this text is accepted: the answer is that count, and the account i has it then, with that password and its
 -- seed as before.
@@ -58,7 +58,7 @@ pub record Day (p i : ℕ) (phrase buffer : List ℕ) (s t : State) : Type 0 whe
 -- The port presents a password with the call.
 pub data Presents (port : ℕ) : Call → Type 0 where
   by-reply : (text : List ℕ) → Presents port (Call.Reply port text)
-  by-renew : (count : ℕ) (seed new text : List ℕ) → Presents port (Call.Renew port count seed new text)
+  by-renew : (count : ℕ) (seed new text : List ℕ) → Presents port (Call.Renew port number count seed new text)
 
 -- A wrong reply, which is answered with that refusal: 61, or 62 at the third in a row. It changes the port's own record, and the port leaves;
 -- the accounts and the other ports' records are as they were.
