@@ -68,5 +68,5 @@ removed-there id s e = must-good (isThere id s) Refusal.AccountMissing (sym (set
 pub removed-room-used : (gone : ℕ) (s : State) → Housed s → remove gone s .answer ≡ Checked.Good → (id number count : ℕ) (seed password : List ℕ)
     → inOrder (idGiven id ∷ countWithin count ∷ algorithmChecked (numbered number) ∷ seedChecked seed ∷ idNew id (remove gone s .state) ∷ []) ≡ Checked.Good
     → enrol id number count seed password (remove gone s .state) .answer ≡ Checked.Good
-removed-room-used gone s h e id count seed password good =
-    enrol-taken id count seed password (remove gone s .state) good (removed-room-left gone s h (removed-there gone s e))
+removed-room-used gone s h e id number count seed password good =
+    enrol-taken id number count seed password (remove gone s .state) good (removed-room-left gone s h (removed-there gone s e))

@@ -66,7 +66,7 @@ module _ (why : Refusal) (wrong : isIn (listingOf why .0) (61 ∷ 62 ∷ []) ≡
 
   renew-other : (port number count : ℕ) (seed : List ℕ) (s : State) → Other (renewChecked port number count seed s)
   unfolding renewChecked
-  renew-other port count seed s =
+  renew-other port number count seed s =
       then-never (61 ∷ 62 ∷ []) why wrong (turnChecked port s) _ (turn-other port s)
       (checks-other (test (leb 2 count && leb count 9999) Refusal.CountOutside ∷ ofSeed seed
       ∷ test (not (same (map lowerOf seed) (accountOf (turnId s) s .seed))) Refusal.SeedSame ∷ []) refl)
@@ -158,6 +158,6 @@ module _ (why : Refusal) (wrong : isIn (listingOf why .0) (61 ∷ 62 ∷ []) ≡
       (replied-wrong port s (turnChecked port s) (turn-other port s) text (lowered (accountOf (turnId s) s)) e)
   wrong-reply (Call.Renew port number count seed new text) s e =
       wrong-at port _ s (Presents.by-renew count seed new text)
-      (replied-wrong port s (renewChecked port number count seed s) (renew-other port count seed s) text
+      (replied-wrong port s (renewChecked port number count seed s) (renew-other port number count seed s) text
       (λ w. newRoom (accountOf (turnId s) s .id) count seed new) e)
   wrong-reply Call.Tick s e = let z : _≡_ {A = ℕ} 0 1 = cc in absurd (omega arith)
