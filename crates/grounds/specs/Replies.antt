@@ -10,7 +10,7 @@ use Rattle.refusal.specs.declared.Refusal.{Refusal}
 use Rattle.refusal.specs.declared.Checked.{Checked}
 use Rattle.refusal.specs.declared.Reading.{Reading}
 use Rattle.refusal.specs.Checks.{unless}
-use Rattle.password.specs.Password.{Algorithm, bytesOf, hash}
+use Rattle.password.specs.Password.{bytesOf, hash}
 use Rattle.reply.specs.Reply.{readingOf}
 use Rattle.line.specs.Line.{standsIn}
 use Rattle.table.specs.declared.Replied.{Replied}
@@ -76,7 +76,7 @@ taken-steps-down p n s state r =
     let unused = r .turn .unused in
     let down : next .count + 1 ≡ old .count = omega arith in
     subst (λ (room : Room). (n ≡ room .count) × SteppedDown old room) (sym new)
-    (r .answered, record { same-id = refl; same-seed = refl; count-lower = down; old-is-hash = sym (r .hashed) })
+    (r .answered, record { same-id = refl; same-algorithm = refl; same-seed = refl; count-lower = down; old-is-hash = sym (r .hashed) })
 
 -- ---- a reply that is accepted
 

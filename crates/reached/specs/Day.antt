@@ -32,6 +32,10 @@ pub record SteppedDown (old new : Room) : Type 0 where
   pub count-lower : new .count + 1 ≡ old .count
   pub old-is-hash : old .password ≡ hash (old .algorithm) (bytesOf (new .password))
 
+-- What a pass-phrase gives at a count, with the account's own algorithm and seed.
+abbrev pub passwordOf : List ℕ → Room → ℕ → ℕ
+passwordOf phrase room count = password (room .algorithm) phrase (room .seed) count
+
 -- The port's reply with this text is accepted: the answer is that count, and the account i has it then, with that password and its
 -- algorithm and seed as before.
 pub record Accepts (p i : ℕ) (text : List ℕ) (count new : ℕ) (s : State) : Type 0 where
@@ -62,7 +66,7 @@ pub record Day (p i : ℕ) (phrase buffer : List ℕ) (s t : State) : Type 0 whe
       ≡ Reading.Password generated-as
   pub algorithm-own : algorithm ≡ accountOf i s .algorithm
   pub count-less : count + 1 ≡ accountOf i s .count
-  pub generated-is : generated-as ≡ password algorithm phrase (accountOf i s .seed) count
+  pub generated-is : generated-as ≡ passwordOf phrase (accountOf i s) count
   pub hex-accepted : Accepts p i (hexOf generated-as) count generated-as t
   pub words-accepted : Accepts p i (wordsOf generated-as) count generated-as t
 
