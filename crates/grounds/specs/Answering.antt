@@ -72,7 +72,7 @@ seed-checked seed a b e = rw (le-leb 1 (length seed) a, le-leb (length seed) 16 
 
 -- One more hash of what the pass-phrase gives at a count is what it gives at the next.
 next-hash : (phrase seed : List ℕ) (n : ℕ) → 1 < n
-    → hash Algorithm.md5 (bytesOf (password Algorithm.md5 phrase seed (n - 1))) ≡ password Algorithm.md5 phrase seed n
+    → hash (accountOf (turnId s) s .algorithm) (bytesOf (password Algorithm.md5 phrase seed (n - 1))) ≡ password Algorithm.md5 phrase seed n
 unfolding password
 next-hash phrase seed n h =
     let next : suc (n - 1) ≡ n = omega arith in

@@ -163,7 +163,7 @@ said (Reading.Refused why) = 0
 
 -- "Hash the password once": it does not equal the stored one.
 abbrev pub isWrong : List ℕ → State → Bool
-isWrong text s = not (eqb (hash Algorithm.md5 (bytesOf (said (readingOf text)))) (accountOf (turnId s) s .password))
+isWrong text s = not (eqb (hash (accountOf (turnId s) s .algorithm) (bytesOf (said (readingOf text)))) (accountOf (turnId s) s .password))
 
 -- Two wrong replies stand in the port's run, so that one more is the third.
 abbrev pub isThird : ℕ → State → Bool
@@ -177,7 +177,7 @@ wrongRows port text s =
 
 -- "Checks run in the order given."
 abbrev pub conditionsOf : Call → State → List Row
-conditionsOf (Call.Enrol id count seed password) s =
+conditionsOf (Call.Enrol id number count seed password) s =
     (50, eqb id 0) ∷
     (51, isOutside count) ∷ []
     ++ seedRows seed
@@ -201,7 +201,7 @@ conditionsOf (Call.Reply port text) s =
     turnRows port s
     ++ replyRows text
     ++ wrongRows port text s
-conditionsOf (Call.Renew port count seed password text) s =
+conditionsOf (Call.Renew port number count seed password text) s =
     turnRows port s
     ++ valuesRows count seed (accountOf (turnId s) s)
     ++ replyRows text

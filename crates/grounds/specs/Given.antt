@@ -109,7 +109,7 @@ eight = 0 ∷ 1 ∷ 2 ∷ 3 ∷ 4 ∷ 5 ∷ 6 ∷ 7 ∷ []
 
 -- Account 1 with the count 2, whose next password is 0.
 abbrev pub enrolled : Call
-enrolled = Call.Enrol 1 2 (codes "a") (bytesOf (hash Algorithm.md5 (bytesOf 0)))
+enrolled = Call.Enrol 1 2 (codes "a") (bytesOf (hash (accountOf (turnId s) s .algorithm) (bytesOf 0)))
 
 -- Port 0 joins for it, and then replies.
 abbrev pub joins : Call

@@ -82,11 +82,11 @@ repliedChecked a = answerChecked (repliedAnswer (a .answer))
 
 -- ---- Enrol, Remove, Join, Leave
 
-enrol-rows : (id count : ℕ) (seed password : List ℕ) (s : State) → Made s
-    → Follows (settledChecked (Steps.enrol id count seed password s)) (conditionsOf (Call.Enrol id count seed password) s)
+enrol-rows : (id number count : ℕ) (seed password : List ℕ) (s : State) → Made s
+    → Follows (settledChecked (Steps.enrol id number count seed password s)) (conditionsOf (Call.Enrol id number count seed password) s)
 unfolding Steps.enrol enrolChecked
-enrol-rows id count seed password s m =
-    behind settledChecked (refused s) (λ why. refl) _ _ (conditionsOf (Call.Enrol id count seed password) s) []
+enrol-rows id number count seed password s m =
+    behind settledChecked (refused s) (λ why. refl) _ _ (conditionsOf (Call.Enrol id number count seed password) s) []
     (then-test (not (eqb id 0)) _ Refusal.IdZero _ _ (Bool·not-not (eqb id 0))
     (λ a. then-test (leb 2 count && leb count 9999) _ Refusal.CountOutside _ _ refl
     (λ b. then-check (seedChecked seed) _ (seedRows seed) _ (seed-rows seed)
@@ -163,7 +163,7 @@ offered-rows : (port : ℕ) (text : List ℕ) (next : Room) (s : State) → Made
     → Follows (repliedChecked (offered port (said (readingOf text)) next s)) (wrongRows port text s)
 unfolding Follows offered
 offered-rows port text next s m rest =
-    go (eqb (hash Algorithm.md5 (bytesOf (said (readingOf text)))) (accountOf (turnId s) s .password)) (isThird port s)
+    go (eqb (hash (accountOf (turnId s) s .algorithm) (bytesOf (said (readingOf text)))) (accountOf (turnId s) s .password)) (isThird port s)
     (third (portOf port s) (each-get PortGood (s .ports) port freshPort (m .runs) (omega arith, omega arith)))
   where
     go : (t u : Bool) → leb 3 (portOf port s .wrong + 1) ≡ u
@@ -181,12 +181,12 @@ call-reply-rows port text s m =
     (λ e. read-rows s (readingOf text) _ (replyRows text) _ (reply-rows text)
     (offered-rows port text (lowered (accountOf (turnId s) s) (said (readingOf text))) s m))
 
-renew-rows : (port count : ℕ) (seed new text : List ℕ) (s : State) → Made s
-    → Follows (repliedChecked (Steps.renew port count seed new text s)) (conditionsOf (Call.Renew port count seed new text) s)
+renew-rows : (port number count : ℕ) (seed new text : List ℕ) (s : State) → Made s
+    → Follows (repliedChecked (Steps.renew port number count seed new text s)) (conditionsOf (Call.Renew port number count seed new text) s)
 unfolding Steps.renew Steps.renewRead renewChecked valuesChecked
-renew-rows port count seed new text s m =
+renew-rows port number count seed new text s m =
     let values = valuesRows count seed (accountOf (turnId s) s) in
-    behind repliedChecked (replyRefused s) (λ why. refl) (renewChecked port count seed s) _ (turnRows port s ++ values) _
+    behind repliedChecked (replyRefused s) (λ why. refl) (renewChecked port number count seed s) _ (turnRows port s ++ values) _
     (then-check (turnChecked port s) _ (turnRows port s) values (turn-rows port s m) (λ a. values-rows count seed (accountOf (turnId s) s)))
     (λ e. read-rows s (readingOf text) _ (replyRows text) _ (reply-rows text)
     (offered-rows port text (newRoom (accountOf (turnId s) s .id) count seed new) s m))
@@ -194,13 +194,13 @@ renew-rows port count seed new text s m =
 -- ---- each call
 
 call-rows : (s : State) → Made s → (c : Call) → Follows (answerChecked (answer c s)) (conditionsOf c s)
-call-rows s m (Call.Enrol id count seed password) = enrol-rows id count seed password s m
+call-rows s m (Call.Enrol id number count seed password) = enrol-rows id number count seed password s m
 call-rows s m (Call.Remove id) = remove-rows id s
 call-rows s m (Call.Join port id) = join-rows port id s m
 call-rows s m (Call.Leave port) = leave-rows port s
 call-rows s m (Call.Challenge port room) = challenge-rows port room s m
 call-rows s m (Call.Reply port text) = call-reply-rows port text s m
-call-rows s m (Call.Renew port count seed new text) = renew-rows port count seed new text s m
+call-rows s m (Call.Renew port number count seed new text) = renew-rows port number count seed new text s m
 call-rows s m Call.Tick = no-rows Checked.Good refl
 
 pub call-exactly : (s : State) → Made s → (c : Call) → Exactly (numbers (answer c s) .0 .0) (conditionsOf c s)

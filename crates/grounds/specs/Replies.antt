@@ -34,7 +34,7 @@ accepted-account p next s g e = same-changed (turnId s) (s .rooms) next e (there
 pub record ReplyTaken (p count : ℕ) (s : State) (state : State) : Type 0 where
   pub taken : ℕ
   pub turn : TurnGood p s
-  pub hashed : hash Algorithm.md5 (bytesOf taken) ≡ accountOf (turnId s) s .password
+  pub hashed : hash (accountOf (turnId s) s .algorithm) (bytesOf taken) ≡ accountOf (turnId s) s .password
   pub answered : count ≡ accountOf (turnId s) s .count - 1
   pub left : state ≡ Steps.accepted p (lowered (accountOf (turnId s) s) taken) s .state
 
@@ -45,14 +45,14 @@ pub reply-taken : (p n : ℕ) (text : List ℕ) (s : State) → reply p text s .
 unfolding reply replyRead offered
 reply-taken p n text s e = go (turnChecked p s) refl (readingOf text) e
   where
-    test : (w : ℕ) (t : Bool) → TurnGood p s → eqb (hash Algorithm.md5 (bytesOf w)) (accountOf (turnId s) s .password) ≡ t
+    test : (w : ℕ) (t : Bool) → TurnGood p s → eqb (hash (accountOf (turnId s) s .algorithm) (bytesOf w)) (accountOf (turnId s) s .password) ≡ t
         → cond t (Steps.accepted p (lowered (accountOf (turnId s) s) w) s) (Steps.rejected p s) .answer ≡ Replied.Accepted n
         → ReplyTaken p n s (cond t (Steps.accepted p (lowered (accountOf (turnId s) s) w) s) (Steps.rejected p s) .state)
     test w true g f e =
         record {
           taken = w;
           turn = g;
-          hashed = eqb-true (hash Algorithm.md5 (bytesOf w)) (accountOf (turnId s) s .password) f;
+          hashed = eqb-true (hash (accountOf (turnId s) s .algorithm) (bytesOf w)) (accountOf (turnId s) s .password) f;
           answered = cc;
           left = refl;
         }
@@ -64,7 +64,7 @@ reply-taken p n text s e = go (turnChecked p s) refl (readingOf text) e
     go (Checked.Refused why) k r e = not-accepted why n e
     go Checked.Good k (Reading.Refused why) e = not-accepted why n e
     go Checked.Good k (Reading.Password w) e =
-        test w (eqb (hash Algorithm.md5 (bytesOf w)) (accountOf (turnId s) s .password)) (turn-good p s k) refl e
+        test w (eqb (hash (accountOf (turnId s) s .algorithm) (bytesOf w)) (accountOf (turnId s) s .password)) (turn-good p s k) refl e
 
 pub taken-steps-down : (p n : ℕ) (s state : State) → ReplyTaken p n s state
     → (n ≡ accountOf (turnId s) state .count) × SteppedDown (accountOf (turnId s) s) (accountOf (turnId s) state)
@@ -86,7 +86,7 @@ unfolding turnChecked
 turn-checked p s k l f t u = rw (le-leb p 3 k, l, f, t, lt-ltb 1 (accountOf (turnId s) s .count) u)
 
 pub reply-accepted : (p w : ℕ) (text : List ℕ) (s : State) → turnChecked p s ≡ Checked.Good → readingOf text ≡ Reading.Password w
-    → hash Algorithm.md5 (bytesOf w) ≡ accountOf (turnId s) s .password
+    → hash (accountOf (turnId s) s .algorithm) (bytesOf w) ≡ accountOf (turnId s) s .password
     → reply p text s ≡ Steps.accepted p (lowered (accountOf (turnId s) s) w) s
 unfolding reply replyRead offered
-reply-accepted p w text s k r e = rw (k, r, eq-eqb (hash Algorithm.md5 (bytesOf w)) (accountOf (turnId s) s .password) e)
+reply-accepted p w text s k r e = rw (k, r, eq-eqb (hash (accountOf (turnId s) s .algorithm) (bytesOf w)) (accountOf (turnId s) s .password) e)
