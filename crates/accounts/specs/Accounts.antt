@@ -1,4 +1,4 @@
--- What becomes of an account: document 01, 'Table, ports and turns' and 'Refusal numbers'.
+-- What becomes of an account: document 01, 'Table, ports and turns' and 'Refusal numbers'; document 02, R-1.
 use Prim.Native.Nat.{ℕ, _-_}
 use mathlib.Core.Bool.{not, _&&_}
 use mathlib.Core.List.{List, [], _∷_, map}
@@ -8,19 +8,31 @@ use Rattle.text.specs.Kinds.{lowerOf}
 use Rattle.refusal.specs.declared.Refusal.{Refusal}
 use Rattle.refusal.specs.declared.Checked.{Checked}
 use Rattle.refusal.specs.Checks.{must, unless, inOrder}
+use Rattle.password.specs.Algorithm.{numbered, algorithmChecked, algorithmIn}
 use Rattle.password.specs.PhraseAndSeed.{seedChecked}
 use Rattle.password.specs.Password.{numberOf}
 use Rattle.accounts.specs.Rooms.{Room, roomOf, free}
 use Rattle.accounts.specs.declared.Proposed.{Proposed}
 
--- Enrol and Renew: "Seeds are kept in lower case"; the password is "eight bytes".
-abbrev pub newRoom : ℕ → ℕ → List ℕ → List ℕ → Room
-newRoom id count seed password =
-    record { id = id; seed = map lowerOf seed; count = count; password = numberOf password }
+-- Enrol and Renew: "Seeds are kept in lower case"; the password is "eight bytes"; R-1's algorithm is given by its number.
+abbrev pub newRoom : ℕ → ℕ → ℕ → List ℕ → List ℕ → Room
+newRoom id number count seed password = record {
+  id = id;
+  algorithm = algorithmIn (numbered number);
+  seed = map lowerOf seed;
+  count = count;
+  password = numberOf password;
+}
 
--- Reply, on a match: "store the reply, lower the count by 1".
+-- Reply, on a match: "store the reply, lower the count by 1". The rest stays, R-1's algorithm too.
 abbrev pub lowered : Room → ℕ → Room
-lowered room password = record { id = room .id; seed = room .seed; count = room .count - 1; password = password }
+lowered room password = record {
+  id = room .id;
+  algorithm = room .algorithm;
+  seed = room .seed;
+  count = room .count - 1;
+  password = password;
+}
 
 -- 51: "count not 2 to 9,999"
 abbrev pub countWithin : ℕ → Checked
@@ -30,9 +42,11 @@ countWithin count = must (leb 2 count && leb count 9999) Refusal.CountOutside
 abbrev pub seedOther : List ℕ → Room → Checked
 seedOther seed present = must (not (same (map lowerOf seed) (present .seed))) Refusal.SeedSame
 
--- Renew: 51, 23, 24, 63. At Enrol the present room is a free one, and 63 is never given.
-unfoldable pub valuesChecked : ℕ → List ℕ → Room → Checked
-valuesChecked count seed present = inOrder (countWithin count ∷ seedChecked seed ∷ seedOther seed present ∷ [])
+-- Renew: 51, 21, 23, 24, 63; R-1: "at enrolment and renewal an unknown algorithm gives 21 after 51". At Enrol the present room is
+-- a free one, and 63 is never given.
+unfoldable pub valuesChecked : ℕ → ℕ → List ℕ → Room → Checked
+valuesChecked number count seed present =
+    inOrder (countWithin count ∷ algorithmChecked (numbered number) ∷ seedChecked seed ∷ seedOther seed present ∷ [])
 
 -- What is found, and the account where nothing is wrong; a free room otherwise.
 pub record Proposal : Type 0 where

@@ -4,21 +4,24 @@ use mathlib.Core.Bool.{Bool, cond}
 use mathlib.Core.List.{List, [], _∷_}
 use lib.Dec.{eqb, ltb}
 use lib.ListN.{length, getD, take}
+use Rattle.password.specs.declared.algorithm.Algorithm.{Algorithm}
 use Rattle.accounts.specs.declared.Account.{Account}
 
--- "An account has a seed, a stored count and a stored password", and it stands in a room. A free room has the id 0.
+-- "An account has a seed, a stored count and a stored password"; R-1: "an account keeps its algorithm". It stands in a room. A free
+-- room has the id 0, and its algorithm says nothing.
 pub record Room : Type 0 where
   pub id : ℕ
+  pub algorithm : Algorithm
   pub seed : List ℕ
   pub count : ℕ
   pub password : ℕ
 
 -- What an account's bytes mean.
 abbrev pub roomOf : Account → Room
-roomOf a = record { id = a .id; seed = take (a .len) (a .seed); count = a .count; password = a .password }
+roomOf a = record { id = a .id; algorithm = a .algorithm; seed = take (a .len) (a .seed); count = a .count; password = a .password }
 
 abbrev pub free : Room
-free = record { id = 0; seed = []; count = 0; password = 0 }
+free = record { id = 0; algorithm = Algorithm.Md5; seed = []; count = 0; password = 0 }
 
 -- The first room with that id; as many as there are rooms where none has it.
 unfoldable pub placeOf : ℕ → List Room → ℕ

@@ -2,13 +2,13 @@
 ghost use mathlib.Core.Path.{_≡_};
 ghost use Prim.Native.Nat.{_-_};
 ghost use lib.ListN.{length};
-ghost use Rattle.challenge.specs.Challenges.{challengeText, challengeWritten};
+ghost use Rattle.challenge.specs.Challenges.{challengeText, challengeWrittenBy};
 ghost use Rattle.text.specs.Put.{leaves};
 ghost use Rattle.accounts.specs.Rooms.{roomOf};
 ghost use Rattle.accounts.specs.Accounts.{lowered};
 use crate::Account;
 use crate::seeds::seed_len;
-use challenge::writing::write;
+use challenge::writing::write_by;
 use refusal::Written;
 
 // The count of the password that is asked for.
@@ -23,13 +23,14 @@ fn count_below(account: Account) -> u16
 
 // Writes the account's challenge.
 pub fn write_challenge(account: Account, buf: &mut [u8]) -> Written
-    ensures answered { λ r. ⌜ r ≡ challengeWritten (roomOf account .seed) (account .count - 1) (length (now (buf .entry))) ⌝ }
-    ensures left { λ r. ⌜ now (buf .exit) ≡ leaves r (challengeText (roomOf account .seed) (account .count - 1)) (now (buf .entry)) ⌝ }
+    ensures answered { λ r. ⌜ r ≡ challengeWrittenBy (account .algorithm) (roomOf account .seed) (account .count - 1) (length (now (buf .entry))) ⌝ }
+    ensures left { λ r. ⌜ now (buf .exit) ≡ leaves r (challengeText (account .algorithm) (roomOf account .seed) (account .count - 1)) (now (buf .entry)) ⌝ }
 {
     let seed = account.seed;
     let n = seed_len(account);
     let count = count_below(account);
-    write(&seed[..n], count as u32, buf)
+    let algorithm = account.algorithm;
+    write_by(algorithm, &seed[..n], count as u32, buf)
 }
 
 // The account one count down, with the password that was presented.

@@ -1,32 +1,31 @@
 -- The card writer's answers by what the checks find, and the card's text from the walked passwords.
 use Prim.Native.Nat.{ℕ, _+_, _-_, _≤_}
-use mathlib.Core.Path.{_≡_, refl, _∙_, ap}
+use mathlib.Core.Path.{_≡_, refl, _∙_, ap, ap₂}
 use mathlib.Core.List.{List}
 use native.Mathlib.Omega.{arith}
 use Rattle.refusal.specs.declared.Refusal.{Refusal}
 use Rattle.refusal.specs.declared.Checked.{Checked}
-use Rattle.refusal.specs.declared.Reading.{Reading}
 use Rattle.refusal.specs.declared.Written.{Written}
 use Rattle.text.specs.Put.{writtenOf}
-use Rattle.password.specs.Password.{Algorithm, password, generated}
-use Rattle.password.specs.Laws.{generated-good}
-use Rattle.challenge.specs.Challenges.{challengeOf, seedOf}
-use Rattle.challenge.specs.Laws.{read-seed-good, read-count-low}
+use Rattle.password.specs.declared.algorithm.Algorithm.{Algorithm}
+use Rattle.password.specs.Password.{password}
+use Rattle.challenge.specs.Challenges.{challengeOf, algorithmOf, seedOf}
 use Rattle.cards.specs.CardLines.{cardText, at}
 use Rattle.cards.specs.CardLineLaws.{card-same}
 use Rattle.cards.specs.CardChecks.{countOf, cardChecked}
-use Rattle.cards.specs.CardCheckLaws.{is-read, checks-good, card-bounds}
+use Rattle.cards.specs.CardCheckLaws.{card-bounds}
 use Rattle.cards.specs.Cards.{cardOf, cardWritten}
 use Rattle.cards.specs.Inside.{Falling}
 
 -- the passwords of the walk make the lines
-pub walked : (phrase seed ps : List ℕ) (n k : ℕ) → 1 ≤ k → k ≤ n → Falling (password Algorithm.md5 phrase seed (n - (k - 1))) k ps
-    → cardText (at ps n) n k ≡ cardText (password Algorithm.md5 phrase seed) n k
-walked phrase seed ps n k low high w =
-    card-same (at ps n) (password Algorithm.md5 phrase seed) k n high
+pub walked : (algorithm : Algorithm) (phrase seed ps : List ℕ) (n k : ℕ) → 1 ≤ k → k ≤ n
+    → Falling algorithm (password algorithm phrase seed (n - (k - 1))) k ps
+    → cardText (at ps n) n k ≡ cardText (password algorithm phrase seed) n k
+walked algorithm phrase seed ps n k low high w =
+    card-same (at ps n) (password algorithm phrase seed) k n high
     (λ count a b.
     let same : n - (k - 1) + (k - 1 - (n - count)) ≡ count = omega arith in
-    w phrase seed (n - (k - 1)) refl (n - count) (omega arith) ∙ ap (password Algorithm.md5 phrase seed) same)
+    w phrase seed (n - (k - 1)) refl (n - count) (omega arith) ∙ ap (password algorithm phrase seed) same)
 
 module _ (phrase challenge : List ℕ) (k : ℕ) where
   pub refused : (room : ℕ) (why : Refusal) → cardChecked phrase challenge k ≡ Checked.Refused why → Written.Refused why ≡ cardWritten phrase challenge k room
@@ -41,17 +40,7 @@ module _ (phrase challenge : List ℕ) (k : ℕ) where
     pub bounds : (n : ℕ) → n ≡ countOf (challengeOf challenge) → (1 ≤ k) × (k ≤ 99) × (k ≤ n)
     bounds n p = let b = card-bounds phrase challenge k e in (b .0, b .1, omega (arith, b .2))
 
-    -- the generator's answer at a count of the card
-    pub generated-at : (m : ℕ) → m ≤ countOf (challengeOf challenge)
-        → generated Algorithm.md5 phrase (seedOf challenge) m ≡ Reading.Password (password Algorithm.md5 phrase (seedOf challenge) m)
-    generated-at m h =
-        let checks = checks-good phrase challenge k e in
-        let read = is-read (challengeOf challenge) (checks .1) in
-        let low = read-count-low (read .0) (read .1) (read .2) (read .3) challenge (read .4) in
-        let same = ap countOf (read .4) in
-        generated-good Algorithm.md5 phrase (seedOf challenge) m (checks .0)
-        (read-seed-good (read .0) (read .1) (read .2) (read .3) challenge (read .4)) (omega (arith, low, same))
-
-  pub card-from : (n : ℕ) → n ≡ countOf (challengeOf challenge) → cardText (password Algorithm.md5 phrase (seedOf challenge)) n k ≡ cardOf phrase challenge k
+  pub card-from : (algorithm : Algorithm) (n : ℕ) → algorithm ≡ algorithmOf (challengeOf challenge) → n ≡ countOf (challengeOf challenge)
+      → cardText (password algorithm phrase (seedOf challenge)) n k ≡ cardOf phrase challenge k
   unfolding cardOf
-  card-from n p = ap (λ (m : ℕ). cardText (password Algorithm.md5 phrase (seedOf challenge)) m k) p
+  card-from algorithm n e p = ap₂ (λ (a : Algorithm) (m : ℕ). cardText (password a phrase (seedOf challenge)) m k) e p

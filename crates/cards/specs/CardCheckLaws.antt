@@ -11,6 +11,7 @@ use Rattle.refusal.specs.declared.Checked.{Checked}
 use Rattle.refusal.specs.Checks.{unless}
 use Rattle.refusal.specs.Laws.{must-good, both-good}
 use Rattle.text.specs.Tests.{both}
+use Rattle.password.specs.declared.algorithm.Algorithm.{Algorithm}
 use Rattle.password.specs.PhraseAndSeed.{phraseChecked}
 use Rattle.challenge.specs.declared.reading.Challenge.{Challenge}
 use Rattle.challenge.specs.Challenges.{challengeOf}
@@ -25,8 +26,8 @@ lines-good k n e =
     (leb-true 1 k (inner .0), leb-true k 99 (inner .1), leb-true k n (outer .1))
 
 -- a challenge with nothing wrong is read
-pub is-read : (c : Challenge) → challengeChecked c ≡ Checked.Good → (n s l u : ℕ) × (c ≡ Challenge.Read n s l u)
-is-read (Challenge.Read n s l u) e = (n, s, l, u, refl)
+pub is-read : (c : Challenge) → challengeChecked c ≡ Checked.Good → (algorithm : Algorithm) × (n s l u : ℕ) × (c ≡ Challenge.Read algorithm n s l u)
+is-read (Challenge.Read algorithm n s l u) e = (algorithm, n, s, l, u, refl)
 is-read (Challenge.Refused why) e = let z : _≡_ {A = ℕ} 0 1 = cc in absurd (omega arith)
 
 module _ (phrase challenge : List ℕ) (k : ℕ) (e : cardChecked phrase challenge k ≡ Checked.Good) where

@@ -11,13 +11,14 @@ use Rattle.digests.specs.Lists.{upTo}
 use Rattle.digests.specs.Padding.{paddedByte, paddedWord, blockAt, absorbed}
 use Rattle.digests.specs.Md5.{md5, registers}
 use Rattle.digests.specs.Rounds.{compressed, rounds, performed, operation, round1, round2, round3, round4}
+use Rattle.password.specs.Algorithm.{algorithmName}
 use Rattle.password.specs.PhraseAndSeed.{plain}
 use Rattle.password.specs.Password.{fold, numberAfter as bytesAfter, hash, password}
 use Rattle.dictionary.specs.Words.{wordsIn, lines, words}
 use Rattle.sixwords.specs.Places.{pairs, pairSum, whole, cut, placesOf}
 use Rattle.sixwords.specs.Spelling.{spacedFrom}
 use Rattle.text.specs.Counts.{isCount}
-use Rattle.challenge.specs.Challenges.{opening, algorithm, tokenAt, nextAt, countAt, seedAt, challengeOf}
+use Rattle.challenge.specs.Challenges.{opening, tokenAt, nextAt, countAt, seedAt, challengeOf}
 use Rattle.cards.specs.CardLines.{lineOf, cardText}
 use Rattle.cards.specs.CardChecks.{cardChecked}
 use Rattle.cards.specs.Cards.{cardOf}
@@ -32,6 +33,7 @@ pub refusals : map answerOf (
     []
     ∷ typed (codes "too short" ∷ codes "otp-md5 1 TeSt" ∷ codes "0" ∷ [])
     ∷ typed (codes "This is a test." ∷ [])
+    ∷ typed (codes "This is a test." ∷ codes "otp-md4 1 Te_St" ∷ codes "x" ∷ [])
     ∷ typed (codes "This is a test." ∷ codes "otp-md5 1 Te_St" ∷ codes "x" ∷ [])
     ∷ (codes "This is a test." ++ 10 ∷ [] ++ codes "otp-md5 1 TeSt")
     ∷ typed (codes "This is a test." ∷ codes "otp-md5 1 TeSt" ∷ [])
@@ -39,16 +41,16 @@ pub refusals : map answerOf (
     ∷ typed (codes "This is a test." ∷ codes "otp-md5 1 TeSt" ∷ codes "2" ∷ [])
     ∷ [])
     ≡ map (λ number. codes "refused " ++ number ++ 10 ∷ [])
-    (codes "10" ∷ codes "10" ∷ codes "20" ∷ codes "24" ∷ codes "25" ∷ codes "70" ∷ codes "70" ∷ codes "70" ∷ [])
+    (codes "10" ∷ codes "10" ∷ codes "20" ∷ codes "21" ∷ codes "24" ∷ codes "25" ∷ codes "70" ∷ codes "70" ∷ codes "70" ∷ [])
 unfolding typed answerOf printedCard linesAsked refusedText cardChecked indexOf indexAfter runOf digitsOf numberAfter codes every
-    plain isCount opening algorithm same tokenAt nextAt countAt seedAt challengeOf
+    plain isCount opening algorithmName same tokenAt nextAt countAt seedAt challengeOf
 refusals = refl
 
 -- the row of the pass-phrase `This is a test.` and the seed `TeSt` at count 1
 pub row : answerOf (typed (codes "This is a test." ∷ codes "otp-md5 1 TeSt" ∷ codes "1" ∷ []))
     ≡ codes "1 7965e05436f5029f EASE OIL FUM CURE AWRY AVIS" ++ 10 ∷ []
 unfolding typed answerOf printedCard linesAsked cardChecked cardOf cardText lineOf indexOf indexAfter runOf digitsOf numberAfter
-    codes every plain isCount opening algorithm same tokenAt nextAt countAt seedAt challengeOf password hash fold bytesAfter md5
+    codes every plain isCount opening algorithmName same tokenAt nextAt countAt seedAt challengeOf password hash fold bytesAfter md5
     registers absorbed compressed rounds performed operation round1 round2 round3 round4 blockAt paddedWord paddedByte upTo
     spacedFrom placesOf cut whole pairs pairSum wordsIn lines words flatten
 row = refl

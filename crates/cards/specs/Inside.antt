@@ -5,20 +5,21 @@ use mathlib.Core.List.{List, [], _∷_, _++_}
 use lib.ListN.{length, getD}
 use Rattle.refusal.specs.declared.Written.{Written}
 use Rattle.text.specs.Put.{Put, Writes}
-use Rattle.password.specs.Password.{Algorithm, password}
+use Rattle.password.specs.declared.algorithm.Algorithm.{Algorithm}
+use Rattle.password.specs.Password.{password}
 use Rattle.cards.specs.CardLines.{cardText}
 
 -- ps starts with k passwords in falling count, the last of them p
-abbrev pub Falling : ℕ → ℕ → List ℕ → Type 0
-Falling p k ps =
-    (phrase seed : List ℕ) (low : ℕ) → p ≡ password Algorithm.md5 phrase seed low
-    → (i : ℕ) → i < k → getD ps i 0 ≡ password Algorithm.md5 phrase seed (low + (k - 1 - i))
+abbrev pub Falling : Algorithm → ℕ → ℕ → List ℕ → Type 0
+Falling algorithm p k ps =
+    (phrase seed : List ℕ) (low : ℕ) → p ≡ password algorithm phrase seed low
+    → (i : ℕ) → i < k → getD ps i 0 ≡ password algorithm phrase seed (low + (k - 1 - i))
 
 -- k lines were written, the first for the count n and the last with the password p
-abbrev pub Walked : ℕ → ℕ → ℕ → List ℕ → List ℕ → Written → Type 0
-Walked p n k b b′ r =
-    (phrase seed : List ℕ) → p ≡ password Algorithm.md5 phrase seed (n - (k - 1))
-    → Writes (cardText (password Algorithm.md5 phrase seed) n k) b b′ r
+abbrev pub Walked : Algorithm → ℕ → ℕ → ℕ → List ℕ → List ℕ → Written → Type 0
+Walked algorithm p n k b b′ r =
+    (phrase seed : List ℕ) → p ≡ password algorithm phrase seed (n - (k - 1))
+    → Writes (cardText (password algorithm phrase seed) n k) b b′ r
 
 -- a writer was to write some text with room for one byte more, and left b₁
 abbrev pub RoomAfter : Written → List ℕ → Type 0

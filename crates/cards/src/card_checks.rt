@@ -1,8 +1,10 @@
 // What is wrong with what a card is asked for: the pass-phrase, the challenge and the lines. Document 01, 'The card'.
 ghost use mathlib.Core.Path.{_≡_};
+ghost use Rattle.challenge.specs.Challenges.{challengeOf, algorithmOf};
 ghost use Rattle.cards.specs.CardChecks.{linesCounted, countAsked};
 use challenge::reading::Challenge;
 use challenge::reading::read;
+use password::algorithm::Algorithm;
 use password::phrase_and_seed::check_phrase;
 use refusal::Checked;
 use refusal::Refusal;
@@ -23,6 +25,22 @@ fn lines_counted(lines: u32, count: u32) -> Asked
     Asked::Refused(Refusal::LinesOutside)
 }
 
+// The algorithm that a challenge asks for. After a refusal nobody asks.
+pub fn algorithm_asked(challenge: &[u8]) -> Algorithm
+    ensures { λ r. ⌜ r ≡ algorithmOf (challengeOf (now (challenge .entry))) ⌝ }
+{
+    match read(challenge) {
+        Challenge::Read {
+            algorithm,
+            count: _,
+            start: _,
+            len: _,
+            used: _,
+        } => algorithm,
+        Challenge::Refused(_) => Algorithm::Md5,
+    }
+}
+
 // The count of the first line of a card, or the first fault in the order 10, 11, 20 to 25, 70.
 pub fn count_asked(phrase: &[u8], challenge: &[u8], lines: u32) -> Asked
     ensures { λ r. ⌜ r ≡ countAsked (now (phrase .entry)) (now (challenge .entry)) lines ⌝ }
@@ -32,6 +50,7 @@ pub fn count_asked(phrase: &[u8], challenge: &[u8], lines: u32) -> Asked
     }
     match read(challenge) {
         Challenge::Read {
+            algorithm: _,
             count,
             start: _,
             len: _,

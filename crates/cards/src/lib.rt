@@ -4,17 +4,19 @@ ghost use Prim.Native.Nat.{_-_, _≤_};
 ghost use lib.ListN.{length};
 ghost use Rattle.refusal.specs.declared.Checked.{Checked};
 ghost use Rattle.text.specs.Put.{Writes, leaves};
-ghost use Rattle.password.specs.Password as passwords;
+ghost use Rattle.password.specs.Password.{generatedBy};
 ghost use Rattle.challenge.specs.Challenges.{challengeOf, seedOf};
 ghost use Rattle.cards.specs.CardChecks.{countOf, cardChecked};
 ghost use Rattle.cards.specs.Cards.{cardOf, cardWritten};
 ghost use Rattle.cards.specs.Inside.{Walked};
 use crate::card_checks::Asked;
+use crate::card_checks::algorithm_asked;
 use crate::card_checks::count_asked;
 use crate::card_lines::write_lines;
 use crate::walk::walk;
 use challenge::reading::seed_of;
-use generator::generate;
+use generator::generate_by;
+use password::algorithm::Algorithm;
 use refusal::Reading;
 use refusal::Written;
 
@@ -28,18 +30,18 @@ mod walk;
 pub mod printed;
 
 // The password at a count.
-fn password_at(phrase: &[u8], challenge: &[u8], count: u32) -> Reading
-    ensures { λ r. ⌜ r ≡ passwords.generated passwords.Algorithm.md5 (now (phrase .entry)) (seedOf (now (challenge .entry))) count ⌝ }
+fn password_at(algorithm: Algorithm, phrase: &[u8], challenge: &[u8], count: u32) -> Reading
+    ensures { λ r. ⌜ r ≡ generatedBy algorithm (now (phrase .entry)) (seedOf (now (challenge .entry))) count ⌝ }
 {
-    generate(phrase, seed_of(challenge), count)
+    generate_by(algorithm, phrase, seed_of(challenge), count)
 }
 
 // k lines, the first for the count n, where p is the password of the last.
-fn write_walked(p: u64, n: u32, k: u32, buf: &mut [u8]) -> Written
+fn write_walked(algorithm: Algorithm, p: u64, n: u32, k: u32, buf: &mut [u8]) -> Written
     requires { ⌜ (1 ≤ k) × (k ≤ 99) × (k ≤ n) ⌝ }
-    ensures { λ r. ⌜ Walked p n k (now (buf .entry)) (now (buf .exit)) r ⌝ }
+    ensures { λ r. ⌜ Walked algorithm p n k (now (buf .entry)) (now (buf .exit)) r ⌝ }
 {
-    let ps = walk(p, k);
+    let ps = walk(algorithm, p, k);
     write_lines(&ps, n, k, buf)
 }
 
@@ -48,9 +50,10 @@ fn write_from(phrase: &[u8], challenge: &[u8], n: u32, k: u32, buf: &mut [u8]) -
     requires { ⌜ (cardChecked (now phrase) (now challenge) k ≡ Checked.Good) × (n ≡ countOf (challengeOf (now challenge))) ⌝ }
     ensures { λ r. ⌜ Writes (cardOf (now (phrase .entry)) (now (challenge .entry)) k) (now (buf .entry)) (now (buf .exit)) r ⌝ }
 {
+    let algorithm = algorithm_asked(challenge);
     let low = n - (k - 1);
-    match password_at(phrase, challenge, low) {
-        Reading::Password(p) => write_walked(p, n, k, buf),
+    match password_at(algorithm, phrase, challenge, low) {
+        Reading::Password(p) => write_walked(algorithm, p, n, k, buf),
         Reading::Refused(why) => Written::Refused(why),
     }
 }

@@ -16,6 +16,8 @@ use Rattle.text.specs.Digits.{numberOf}
 use Rattle.text.specs.Put.{writtenOf}
 use Rattle.text.specs.Tests.{same}
 use Rattle.text.specs.Quoted.{codes}
+use Rattle.password.specs.declared.algorithm.Algorithm.{Algorithm}
+use Rattle.password.specs.Algorithm.{algorithmNumber, algorithmName, numbered, named, algorithmChecked, algorithmIn}
 use Rattle.password.specs.PhraseAndSeed.{seedChecked}
 use Rattle.challenge.specs.declared.reading.Challenge.{Challenge}
 use Rattle.text.specs.Counts.{isCount, decimalOf}
@@ -23,10 +25,6 @@ use Rattle.text.specs.Counts.{isCount, decimalOf}
 -- "the four bytes `otp-` in lower case"
 unfoldable pub opening : List ℕ
 opening = codes "otp-"
-
--- the algorithm's name
-unfoldable pub algorithm : List ℕ
-algorithm = codes "md5"
 
 -- "A token ends before a space, tab, newline or the end of the slice": the token that starts at a place
 unfoldable pub tokenAt : List ℕ → ℕ → List ℕ
@@ -56,8 +54,9 @@ terminated (b ∷ rest) = eqb b 32 || eqb b 10
 abbrev pub step1 : List ℕ → Checked
 step1 text = must (same (take 4 text) opening) Refusal.OpeningWrong
 
+-- R-1: "21 now means neither `md5` nor `sha1`"
 abbrev pub step2 : List ℕ → Checked
-step2 text = must (same (tokenAt text 4) algorithm) Refusal.AlgorithmUnknown
+step2 text = algorithmChecked (named (tokenAt text 4))
 
 abbrev pub step3 : List ℕ → Checked
 step3 text = must (isCount (tokenAt text (countAt text))) Refusal.CountUnread
@@ -68,11 +67,11 @@ step4 text = seedChecked (tokenAt text (seedAt text))
 abbrev pub step5 : List ℕ → Checked
 step5 text = must (terminated (drop (endOf text (seedAt text)) text)) Refusal.SeedUnended
 
--- "On success": the count, where the seed stands, how long it is, "and the bytes used, terminator included"
+-- "On success": R-1's algorithm, the count, where the seed stands, how long it is, "and the bytes used, terminator included"
 abbrev pub found : List ℕ → Challenge
 found text =
-    Challenge.Read (numberOf 10 (tokenAt text (countAt text))) (seedAt text) (length (tokenAt text (seedAt text)))
-    (endOf text (seedAt text) + 1)
+    Challenge.Read (algorithmIn (named (tokenAt text 4))) (numberOf 10 (tokenAt text (countAt text))) (seedAt text)
+    (length (tokenAt text (seedAt text))) (endOf text (seedAt text) + 1)
 
 unfoldable pub challengeOf : List ℕ → Challenge
 challengeOf text =
@@ -83,31 +82,46 @@ challengeOf text =
     (unless Challenge.Refused (step5 text)
     (found text)))))
 
--- the number and values of a challenge that was read: count, start, length and bytes used
-abbrev pub challengeNumbers : Challenge → Listing × ℕ × ℕ × ℕ × ℕ
-challengeNumbers (Challenge.Read count start len used) = (unrefused, count, start, len, used)
-challengeNumbers (Challenge.Refused why) = (listingOf why, 0, 0, 0, 0)
+-- the number and values of a challenge that was read: the algorithm's number, count, start, length and bytes used
+abbrev pub challengeNumbers : Challenge → Listing × ℕ × ℕ × ℕ × ℕ × ℕ
+challengeNumbers (Challenge.Read algorithm count start len used) = (unrefused, algorithmNumber algorithm, count, start, len, used)
+challengeNumbers (Challenge.Refused why) = (listingOf why, 0, 0, 0, 0, 0)
+
+-- the algorithm that a challenge asks for; after a refusal nobody asks
+abbrev pub algorithmOf : Challenge → Algorithm
+algorithmOf (Challenge.Read algorithm count start len used) = algorithm
+algorithmOf (Challenge.Refused why) = Algorithm.Md5
 
 -- "the seed is handed back as the part of the caller's bytes where it stands"; "After a refusal the part
 -- handed back is the empty one at the start": where the part starts, and how long it is
 abbrev pub startOf : Challenge → ℕ
-startOf (Challenge.Read count start len used) = start
+startOf (Challenge.Read algorithm count start len used) = start
 startOf (Challenge.Refused why) = 0
 
 abbrev pub lengthOf : Challenge → ℕ
-lengthOf (Challenge.Read count start len used) = len
+lengthOf (Challenge.Read algorithm count start len used) = len
 lengthOf (Challenge.Refused why) = 0
 
 abbrev pub seedOf : List ℕ → List ℕ
 seedOf text = take (lengthOf (challengeOf text)) (drop (startOf (challengeOf text)) text)
 
 -- "The writer puts single spaces, the seed in lower case and a newline."
-unfoldable pub challengeText : List ℕ → ℕ → List ℕ
-challengeText seed count =
-    opening ++ algorithm ++ 32 ∷ [] ++ decimalOf count ++ 32 ∷ [] ++ map lowerOf seed ++ 10 ∷ []
+unfoldable pub challengeText : Algorithm → List ℕ → ℕ → List ℕ
+challengeText algorithm seed count =
+    opening ++ algorithmName algorithm ++ 32 ∷ [] ++ decimalOf count ++ 32 ∷ [] ++ map lowerOf seed ++ 10 ∷ []
 
 -- "the challenge writer 23, 24, 13, 40"
-unfoldable pub challengeWritten : List ℕ → ℕ → ℕ → Written
-challengeWritten seed count room =
+unfoldable pub challengeWrittenBy : Algorithm → List ℕ → ℕ → ℕ → Written
+challengeWrittenBy algorithm seed count room =
     unless Written.Refused (seedChecked seed)
-    (cond (ltb 9999 count) (Written.Refused Refusal.CountHigh) (writtenOf room (challengeText seed count)))
+    (cond (ltb 9999 count) (Written.Refused Refusal.CountHigh) (writtenOf room (challengeText algorithm seed count)))
+
+-- R-1: "an unknown algorithm gives 21 .. at the .. challenge writer first". The algorithm is given by its number.
+unfoldable pub challengeWritten : ℕ → List ℕ → ℕ → ℕ → Written
+challengeWritten number seed count room =
+    unless Written.Refused (algorithmChecked (numbered number))
+    (challengeWrittenBy (algorithmIn (numbered number)) seed count room)
+
+-- and the text that it writes
+abbrev pub challengeNumbered : ℕ → List ℕ → ℕ → List ℕ
+challengeNumbered number seed count = challengeText (algorithmIn (numbered number)) seed count

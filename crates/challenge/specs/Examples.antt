@@ -1,4 +1,4 @@
--- 01, Checked examples: those on challenges and seeds, as one theorem.
+-- 01, Checked examples: those on challenges and seeds, and R-1's names, as one theorem.
 use mathlib.Core.Path.{_≡_, refl}
 use mathlib.Core.List.{List, [], _∷_, _++_, map}
 use Prim.Native.Nat.{ℕ}
@@ -7,10 +7,12 @@ use Rattle.text.specs.Scan.{runOf}
 use Rattle.text.specs.Digits.{numberAfter}
 use Rattle.text.specs.Quoted.{codes}
 use Rattle.text.specs.Tests.{every, same}
+use Rattle.password.specs.declared.algorithm.Algorithm.{Algorithm}
+use Rattle.password.specs.Algorithm.{algorithmName}
 use Rattle.password.specs.PhraseAndSeed.{plain}
 use Rattle.challenge.specs.declared.reading.Challenge.{Challenge}
 use Rattle.text.specs.Counts.{isCount}
-use Rattle.challenge.specs.Challenges.{opening, algorithm, tokenAt, nextAt, countAt, seedAt, challengeOf, seedOf}
+use Rattle.challenge.specs.Challenges.{opening, tokenAt, nextAt, countAt, seedAt, challengeOf, seedOf}
 
 -- what a challenge says, and its seed
 unfoldable pub said : List ℕ → Challenge × List ℕ
@@ -28,15 +30,25 @@ pub examples : map said (
     ∷ (codes "otp-md5 1 _eventeenLettersA" ++ newline)
     ∷ (codes "otp-md5 1 Length_Okay" ++ newline)
     ∷ codes "otp-md5 99 A Seed"
+    ∷ (codes "otp-sha1 487 dog2" ++ newline)
+    ∷ (codes "otp-SHA1 487 dog2" ++ newline)
+    ∷ (codes "otp-sha 487 dog2" ++ newline)
+    ∷ (codes "otp-sha1x 487 dog2" ++ newline)
+    ∷ codes "otp-"
     ∷ [])
-    ≡ (Challenge.Read 487 12 4 17, codes "dog2")
+    ≡ (Challenge.Read Algorithm.Md5 487 12 4 17, codes "dog2")
     ∷ (Challenge.Refused Refusal.SeedUnended, [])
     ∷ (Challenge.Refused Refusal.CountUnread, [])
-    ∷ (Challenge.Read 1 10 16 27, codes "SixteenLettersAA")
+    ∷ (Challenge.Read Algorithm.Md5 1 10 16 27, codes "SixteenLettersAA")
     ∷ (Challenge.Refused Refusal.SeedLength, [])
     ∷ (Challenge.Refused Refusal.SeedLength, [])
     ∷ (Challenge.Refused Refusal.SeedCharacter, [])
-    ∷ (Challenge.Read 99 11 1 13, codes "A")
+    ∷ (Challenge.Read Algorithm.Md5 99 11 1 13, codes "A")
+    ∷ (Challenge.Read Algorithm.Sha1 487 13 4 18, codes "dog2")
+    ∷ (Challenge.Refused Refusal.AlgorithmUnknown, [])
+    ∷ (Challenge.Refused Refusal.AlgorithmUnknown, [])
+    ∷ (Challenge.Refused Refusal.AlgorithmUnknown, [])
+    ∷ (Challenge.Refused Refusal.AlgorithmUnknown, [])
     ∷ []
-unfolding said codes runOf numberAfter every plain isCount opening algorithm same tokenAt nextAt countAt seedAt challengeOf
+unfolding said codes runOf numberAfter every plain isCount opening algorithmName same tokenAt nextAt countAt seedAt challengeOf
 examples = refl

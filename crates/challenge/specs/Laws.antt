@@ -15,13 +15,15 @@ use Rattle.text.specs.Digits.{numberOf}
 use Rattle.text.specs.Scan.{runOf}
 use Rattle.text.specs.ScanLaws.{run-within}
 use Rattle.text.specs.Tests.{same, same-equal}
+use Rattle.password.specs.declared.algorithm.Algorithm.{Algorithm}
+use Rattle.password.specs.declared.algorithm.Named.{Named}
+use Rattle.password.specs.Algorithm.{algorithmName, named}
 use Rattle.password.specs.PhraseAndSeed.{seedChecked}
 use Rattle.text.specs.Counts.{isCount, widthOf}
 use Rattle.text.specs.CountLaws.{count-low, length-decimal}
 use Rattle.challenge.specs.declared.reading.Challenge.{Challenge}
 use Rattle.challenge.specs.Challenges.{
   opening,
-  algorithm,
   challengeText,
   tokenAt,
   endOf,
@@ -66,14 +68,14 @@ pub opened-long : (text : List ℕ) → same (take 4 text) opening ≡ true → 
 unfolding opening codes
 opened-long text e = omega (arith, length-take 4 text, ap length (same-equal (take 4 text) opening e))
 
-module _ (n s l u : ℕ) where
+module _ (algorithm : Algorithm) (n s l u : ℕ) where
   -- a challenge is read only if each step finds nothing wrong
-  pub steps-good : (text : List ℕ) → challengeOf text ≡ Challenge.Read n s l u
+  pub steps-good : (text : List ℕ) → challengeOf text ≡ Challenge.Read algorithm n s l u
       → (step1 text ≡ Checked.Good) × (step2 text ≡ Checked.Good) × (step3 text ≡ Checked.Good) × (step4 text ≡ Checked.Good) × (step5 text ≡ Checked.Good)
-      × (found text ≡ Challenge.Read n s l u)
+      × (found text ≡ Challenge.Read algorithm n s l u)
   unfolding challengeOf
   steps-good text e =
-      let past = not-refused Challenge.Refused (Challenge.Read n s l u) (λ why f. let z : _≡_ {A = ℕ} 0 1 = cc in omega arith) in
+      let past = not-refused Challenge.Refused (Challenge.Read algorithm n s l u) (λ why f. let z : _≡_ {A = ℕ} 0 1 = cc in omega arith) in
       let a = past (step1 text) _ e in
       let b = past (step2 text) _ (a .1) in
       let c = past (step3 text) _ (b .1) in
@@ -81,9 +83,9 @@ module _ (n s l u : ℕ) where
       let f = past (step5 text) _ (d .1) in
       (a .0, b .0, c .0, d .0, f .0, f .1)
 
-  module _ (text : List ℕ) (e : challengeOf text ≡ Challenge.Read n s l u) where
+  module _ (text : List ℕ) (e : challengeOf text ≡ Challenge.Read algorithm n s l u) where
     good : (step1 text ≡ Checked.Good) × (step2 text ≡ Checked.Good) × (step3 text ≡ Checked.Good) × (step4 text ≡ Checked.Good) × (step5 text ≡ Checked.Good)
-        × (found text ≡ Challenge.Read n s l u)
+        × (found text ≡ Challenge.Read algorithm n s l u)
     good = steps-good text e
 
     seed-starts : seedAt text ≡ s
@@ -121,9 +123,10 @@ module _ (n s l u : ℕ) where
 
 -- ---- what is written
 
-pub length-challenge : (seed : List ℕ) (count : ℕ) → length (challengeText seed count) ≡ widthOf count + length seed + 10
-unfolding challengeText opening algorithm codes
-length-challenge seed count = simp (length-append, length-map) (omega (arith, length-decimal count))
+pub length-challenge : (algorithm : Algorithm) (seed : List ℕ) (count : ℕ)
+    → length (challengeText algorithm seed count) ≡ length (algorithmName algorithm) + widthOf count + length seed + 7
+unfolding challengeText opening codes
+length-challenge algorithm seed count = simp (length-append, length-map) (omega (arith, length-decimal count))
 
 -- ---- the reader's answers, one for each way through the steps
 
@@ -133,32 +136,32 @@ module _ (text : List ℕ) where
   stop1 e = rw e
 
   module _ (e1 : same (take 4 text) opening ≡ true) where
-    pub stop2 : same (tokenAt text 4) algorithm ≡ false → challengeOf text ≡ Challenge.Refused Refusal.AlgorithmUnknown
+    pub stop2 : named (tokenAt text 4) ≡ Named.Unknown → challengeOf text ≡ Challenge.Refused Refusal.AlgorithmUnknown
     unfolding challengeOf
     stop2 e = rw (e1, e)
 
-    module _ (e2 : same (tokenAt text 4) algorithm ≡ true) where
+    module _ (algorithm : Algorithm) (e2 : named (tokenAt text 4) ≡ Named.Is algorithm) where
       pub stop3 : isCount (tokenAt text (countAt text)) ≡ false → challengeOf text ≡ Challenge.Refused Refusal.CountUnread
       unfolding challengeOf
       stop3 e = rw (e1, e2, e)
 
       module _ (e3 : isCount (tokenAt text (countAt text)) ≡ true) where
         -- past step 3 the count is known, and the rest goes by the seed
-        pub from-seed : (n : ℕ) → numberOf 10 (tokenAt text (countAt text)) ≡ n → challengeOf text ≡ seedFrom text n (seedAt text)
+        pub from-seed : (n : ℕ) → numberOf 10 (tokenAt text (countAt text)) ≡ n → challengeOf text ≡ seedFrom text algorithm n (seedAt text)
         unfolding challengeOf seedFrom
         from-seed n e = rw (e1, e2, e3, e)
 
-module _ (text : List ℕ) (count start : ℕ) where
-  pub stop4 : (why : Refusal) → seedChecked (tokenAt text start) ≡ Checked.Refused why → seedFrom text count start ≡ Challenge.Refused why
+module _ (text : List ℕ) (algorithm : Algorithm) (count start : ℕ) where
+  pub stop4 : (why : Refusal) → seedChecked (tokenAt text start) ≡ Checked.Refused why → seedFrom text algorithm count start ≡ Challenge.Refused why
   unfolding seedFrom
   stop4 why e = rw e
 
   module _ (e4 : seedChecked (tokenAt text start) ≡ Checked.Good) where
-    pub stop5 : terminated (drop (endOf text start) text) ≡ false → seedFrom text count start ≡ Challenge.Refused Refusal.SeedUnended
+    pub stop5 : terminated (drop (endOf text start) text) ≡ false → seedFrom text algorithm count start ≡ Challenge.Refused Refusal.SeedUnended
     unfolding seedFrom
     stop5 e = rw (e4, e)
 
     pub all-good : terminated (drop (endOf text start) text) ≡ true
-        → seedFrom text count start ≡ Challenge.Read count start (length (tokenAt text start)) (endOf text start + 1)
+        → seedFrom text algorithm count start ≡ Challenge.Read algorithm count start (length (tokenAt text start)) (endOf text start + 1)
     unfolding seedFrom
     all-good e = rw (e4, e)

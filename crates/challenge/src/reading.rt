@@ -4,8 +4,13 @@ ghost use Prim.Native.Nat.{_+_, _≤_};
 ghost use lib.ListN.{length, take, drop};
 ghost use Rattle.text.specs.Tests.{same as sameText};
 ghost use Rattle.text.specs.Counts.{countedOf};
+ghost use Rattle.password.specs.Algorithm.{named};
 ghost use Rattle.challenge.specs.Challenges as spec;
 ghost use Rattle.challenge.specs.Inside as inside;
+use crate::names::read_name;
+use crate::names::same;
+use password::algorithm::Algorithm;
+use password::algorithm::Named;
 use password::phrase_and_seed::check_seed;
 use refusal::Checked;
 use refusal::Refusal;
@@ -14,27 +19,19 @@ use text::counts::read_count;
 use text::kinds::Kind;
 use text::scan::run;
 
-// The four bytes that every challenge starts with, and the name of its algorithm.
+// The four bytes that every challenge starts with.
 pub const OPENING: [u8; 4] = [b'o', b't', b'p', b'-'];
 
-pub const ALGORITHM: [u8; 3] = [b'm', b'd', b'5'];
-
-// What a challenge says: its count, where in its bytes the seed stands, and how many bytes were used. Or what is wrong.
+// What a challenge says: its algorithm, its count, where in its bytes the seed stands, and how many bytes were used. Or what is wrong.
 pub enum Challenge {
     Read {
+        algorithm: Algorithm,
         count: u32,
         start: usize,
         len: usize,
         used: usize,
     },
     Refused(Refusal),
-}
-
-// Whether two texts are the same.
-fn same(a: &[u8], b: &[u8]) -> bool
-    ensures { λ r. ⌜ r ≡ sameText (now (a .entry)) (now (b .entry)) ⌝ }
-{
-    check::same(a, b)
 }
 
 // Whether the text starts with the four bytes.
@@ -75,12 +72,12 @@ fn is_terminated(text: &[u8], at: usize) -> bool
     (text[at] == b' ') | (text[at] == b'\n')
 }
 
-// Whether the rest of the first token is the algorithm's name.
-fn is_named(text: &[u8]) -> bool
+// The algorithm that the rest of the first token names.
+fn algorithm_from(text: &[u8]) -> Named
     requires { ⌜ 4 ≤ length (now text) ⌝ }
-    ensures { λ r. ⌜ r ≡ sameText (spec.tokenAt (now (text .entry)) 4) spec.algorithm ⌝ }
+    ensures { λ r. ⌜ r ≡ named (spec.tokenAt (now (text .entry)) 4) ⌝ }
 {
-    same(token(text, 4), &ALGORITHM)
+    read_name(token(text, 4))
 }
 
 // The count that starts at a place, if it is one.
@@ -91,10 +88,10 @@ fn count_from(text: &[u8], at: usize) -> Counted
     read_count(token(text, at))
 }
 
-// The seed that starts at a place, and the byte after it: steps 4 and 5, once the count is known.
-fn seed_from(text: &[u8], count: u32, start: usize) -> Challenge
+// The seed that starts at a place, and the byte after it: steps 4 and 5, once algorithm and count are known.
+fn seed_from(text: &[u8], algorithm: Algorithm, count: u32, start: usize) -> Challenge
     requires { ⌜ start ≤ length (now text) ⌝ }
-    ensures { λ r. ⌜ r ≡ inside.seedFrom (now (text .entry)) count start ⌝ }
+    ensures { λ r. ⌜ r ≡ inside.seedFrom (now (text .entry)) algorithm count start ⌝ }
 {
     let seed = token(text, start);
     if let Checked::Refused(why) = check_seed(seed) {
@@ -106,6 +103,7 @@ fn seed_from(text: &[u8], count: u32, start: usize) -> Challenge
         return Challenge::Refused(Refusal::SeedUnended);
     }
     Challenge::Read {
+        algorithm,
         count,
         start,
         len,
@@ -119,14 +117,14 @@ pub fn read(text: &[u8]) -> Challenge
     if !is_opened(text) {
         return Challenge::Refused(Refusal::OpeningWrong);
     }
-    if !is_named(text) {
+    let Named::Is(algorithm) = algorithm_from(text) else {
         return Challenge::Refused(Refusal::AlgorithmUnknown);
-    }
+    };
     let at = next(text, 4);
     let Counted::Is(count) = count_from(text, at) else {
         return Challenge::Refused(Refusal::CountUnread);
     };
-    seed_from(text, count, next(text, at))
+    seed_from(text, algorithm, count, next(text, at))
 }
 
 // The seed, as the part of the text where it stands; after a refusal the empty part at the start.
@@ -136,6 +134,7 @@ pub fn seed_of(text: &[u8]) -> &[u8]
 {
     match read(text) {
         Challenge::Read {
+            algorithm: _,
             count: _,
             start,
             len,

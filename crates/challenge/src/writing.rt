@@ -6,9 +6,14 @@ ghost use lib.ListN.{length};
 ghost use Rattle.text.specs.Kinds.{lowerOf};
 ghost use Rattle.text.specs.Put.{Put, leaves};
 ghost use Rattle.text.specs.Counts.{widthOf, decimalOf};
+ghost use Rattle.password.specs.Algorithm.{algorithmName};
 ghost use Rattle.challenge.specs.Challenges as spec;
-use crate::reading::ALGORITHM;
+use crate::names::name_length;
+use crate::names::put_name;
 use crate::reading::OPENING;
+use password::algorithm::Algorithm;
+use password::algorithm::Named;
+use password::algorithm::numbered;
 use password::phrase_and_seed::check_seed;
 use password::phrase_and_seed::put_lower;
 use refusal::Checked;
@@ -18,23 +23,13 @@ use text::counts::put_count_and;
 use text::counts::width;
 use text::put::copy;
 
-// A text and one byte after it.
-fn put_and(buf: &mut [u8], t: &[u8], last: u8) -> usize
-    requires { ⌜ length (now t) + 1 ≤ length (now buf) ⌝ }
-    ensures { λ r. ⌜ Put (now (t .entry) ++ last ∷ []) (now (buf .entry)) (now (buf .exit)) r ⌝ }
-{
-    let a = copy(buf, t);
-    buf[a] = last;
-    a + 1
-}
-
 // The opening, the algorithm's name and a space.
-fn put_head(buf: &mut [u8]) -> usize
-    requires { ⌜ 8 ≤ length (now buf) ⌝ }
-    ensures { λ r. ⌜ Put (spec.opening ++ (spec.algorithm ++ 32 ∷ [])) (now (buf .entry)) (now (buf .exit)) r ⌝ }
+fn put_head(buf: &mut [u8], algorithm: Algorithm) -> usize
+    requires { ⌜ length (algorithmName algorithm) + 5 ≤ length (now buf) ⌝ }
+    ensures { λ r. ⌜ Put (spec.opening ++ (algorithmName algorithm ++ 32 ∷ [])) (now (buf .entry)) (now (buf .exit)) r ⌝ }
 {
     let a = copy(buf, &OPENING);
-    a + put_and(&mut buf[a..], &ALGORITHM, b' ')
+    a + put_name(&mut buf[a..], algorithm)
 }
 
 // A seed in lower case and a newline.
@@ -57,18 +52,18 @@ fn put_count_seed(buf: &mut [u8], seed: &[u8], count: u32) -> usize
 }
 
 // The challenge at the front of the buffer.
-fn put_challenge(buf: &mut [u8], seed: &[u8], count: u32) -> usize
-    requires { ⌜ widthOf count + length (now seed) + 10 ≤ length (now buf) ⌝ }
-    ensures { λ r. ⌜ Put (spec.challengeText (now (seed .entry)) count) (now (buf .entry)) (now (buf .exit)) r ⌝ }
+fn put_challenge(buf: &mut [u8], algorithm: Algorithm, seed: &[u8], count: u32) -> usize
+    requires { ⌜ length (algorithmName algorithm) + widthOf count + length (now seed) + 7 ≤ length (now buf) ⌝ }
+    ensures { λ r. ⌜ Put (spec.challengeText algorithm (now (seed .entry)) count) (now (buf .entry)) (now (buf .exit)) r ⌝ }
 {
-    let a = put_head(buf);
+    let a = put_head(buf, algorithm);
     a + put_count_seed(&mut buf[a..], seed, count)
 }
 
-// The challenge for a seed and a count, or the first fault in the order 23, 24, 13, 40.
-pub fn write(seed: &[u8], count: u32, buf: &mut [u8]) -> Written
-    ensures answered { λ r. ⌜ r ≡ spec.challengeWritten (now (seed .entry)) count (length (now (buf .entry))) ⌝ }
-    ensures left { λ r. ⌜ now (buf .exit) ≡ leaves r (spec.challengeText (now (seed .entry)) count) (now (buf .entry)) ⌝ }
+// The challenge for an algorithm, a seed and a count, or the first fault in the order 23, 24, 13, 40.
+pub fn write_by(algorithm: Algorithm, seed: &[u8], count: u32, buf: &mut [u8]) -> Written
+    ensures answered { λ r. ⌜ r ≡ spec.challengeWrittenBy algorithm (now (seed .entry)) count (length (now (buf .entry))) ⌝ }
+    ensures left { λ r. ⌜ now (buf .exit) ≡ leaves r (spec.challengeText algorithm (now (seed .entry)) count) (now (buf .entry)) ⌝ }
 {
     if let Checked::Refused(why) = check_seed(seed) {
         return Written::Refused(why);
@@ -76,8 +71,19 @@ pub fn write(seed: &[u8], count: u32, buf: &mut [u8]) -> Written
     if 9999 < count {
         return Written::Refused(Refusal::CountHigh);
     }
-    if buf.len() < width(count) + seed.len() + 10 {
+    if buf.len() < name_length(algorithm) + width(count) + seed.len() + 7 {
         return Written::Refused(Refusal::BufferShort);
     }
-    Written::Wrote(put_challenge(buf, seed, count))
+    Written::Wrote(put_challenge(buf, algorithm, seed, count))
+}
+
+// The same by the algorithm's number: 21 before the other faults.
+pub fn write(algorithm: u32, seed: &[u8], count: u32, buf: &mut [u8]) -> Written
+    ensures answered { λ r. ⌜ r ≡ spec.challengeWritten algorithm (now (seed .entry)) count (length (now (buf .entry))) ⌝ }
+    ensures left { λ r. ⌜ now (buf .exit) ≡ leaves r (spec.challengeNumbered algorithm (now (seed .entry)) count) (now (buf .entry)) ⌝ }
+{
+    let Named::Is(known) = numbered(algorithm) else {
+        return Written::Refused(Refusal::AlgorithmUnknown);
+    };
+    write_by(known, seed, count, buf)
 }

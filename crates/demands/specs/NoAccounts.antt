@@ -39,7 +39,7 @@ nobody-in-line s r none =
 
 -- Enrol's own checks, 50, 51, 23 and 24: no id is taken and no table full.
 abbrev pub ownChecks : ℕ → ℕ → List ℕ → Checked
-ownChecks id count seed = inOrder (idGiven id ∷ countWithin count ∷ seedChecked seed ∷ [])
+ownChecks id number count seed = inOrder (idGiven id ∷ countWithin count ∷ algorithmChecked (numbered number) ∷ seedChecked seed ∷ [])
 
 -- 55 for a port over 3, otherwise that refusal.
 abbrev pub atPort : ℕ → Refusal → Answer
@@ -47,47 +47,47 @@ atPort port why = checkedAnswer (inOrder (portKnown port ∷ Checked.Refused why
 
 -- What each call answers,
 abbrev pub answerWithout : Call → Answer
-answerWithout (Call.Enrol id count seed password) = checkedAnswer (ownChecks id count seed)
+answerWithout (Call.Enrol id number count seed password) = checkedAnswer (ownChecks id number count seed)
 answerWithout (Call.Remove id) = Answer.Refused Refusal.AccountMissing
 answerWithout (Call.Join port id) = atPort port Refusal.AccountMissing
 answerWithout (Call.Leave port) = atPort port Refusal.PortNotInLine
 answerWithout (Call.Challenge port room) = atPort port Refusal.PortNotInLine
 answerWithout (Call.Reply port text) = atPort port Refusal.PortNotInLine
-answerWithout (Call.Renew port count seed password text) = atPort port Refusal.PortNotInLine
+answerWithout (Call.Renew port number count seed password text) = atPort port Refusal.PortNotInLine
 answerWithout Call.Tick = Answer.Done
 
 -- and the table after it: Enrol takes the first room, a tick lowers the ports' shut ticks, all else is as it was.
 abbrev pub afterWithout : Call → State → State
-afterWithout (Call.Enrol id count seed password) s =
-    unless (λ why. s) (ownChecks id count seed) (withRoom 0 (newRoom id count seed password) s)
+afterWithout (Call.Enrol id number count seed password) s =
+    unless (λ why. s) (ownChecks id number count seed) (withRoom 0 (newRoom id number count seed password) s)
 afterWithout (Call.Remove id) s = s
 afterWithout (Call.Join port id) s = s
 afterWithout (Call.Leave port) s = s
 afterWithout (Call.Challenge port room) s = s
 afterWithout (Call.Reply port text) s = s
-afterWithout (Call.Renew port count seed password text) s = s
+afterWithout (Call.Renew port number count seed password text) s = s
 afterWithout Call.Tick s = record { rooms = s .rooms; ports = map cooled (s .ports); line = s .line }
 
 -- So it is in every table that calls make.
 pub empty-answers : (s : State) → Reached s → accountsIn (s .rooms) ≡ 0 → (c : Call) → answer c s ≡ answerWithout c
-empty-answers s r none (Call.Enrol id count seed password) = enrol-first s none (made s r .room-count) id count seed password .0
+empty-answers s r none (Call.Enrol id number count seed password) = enrol-first s none (made s r .room-count) id number count seed password .0
 empty-answers s r none (Call.Remove id) = remove-nobody s none id .0
 empty-answers s r none (Call.Join port id) = join-nobody s none port id .0
 empty-answers s r none (Call.Leave port) = leave-outside s (made s r) none port .0
 empty-answers s r none (Call.Challenge port room) = challenge-nobody s none port room .0 ∙ ap checkedAnswer (turn-outside s (made s r) none port)
 empty-answers s r none (Call.Reply port text) = reply-nobody s none port text .0 ∙ ap checkedAnswer (turn-outside s (made s r) none port)
-empty-answers s r none (Call.Renew port count seed password text) =
-    renew-nobody s none port count seed password text .0 ∙ ap checkedAnswer (turn-outside s (made s r) none port)
+empty-answers s r none (Call.Renew port number count seed password text) =
+    renew-nobody s none port number count seed password text .0 ∙ ap checkedAnswer (turn-outside s (made s r) none port)
 empty-answers s r none Call.Tick = refl
 
 pub empty-after : (s : State) → Reached s → accountsIn (s .rooms) ≡ 0 → (c : Call) → after c s ≡ afterWithout c s
-empty-after s r none (Call.Enrol id count seed password) = enrol-first s none (made s r .room-count) id count seed password .1
+empty-after s r none (Call.Enrol id number count seed password) = enrol-first s none (made s r .room-count) id number count seed password .1
 empty-after s r none (Call.Remove id) = remove-nobody s none id .1
 empty-after s r none (Call.Join port id) = join-nobody s none port id .1
 empty-after s r none (Call.Leave port) = leave-outside s (made s r) none port .1
 empty-after s r none (Call.Challenge port room) = refl
 empty-after s r none (Call.Reply port text) = reply-nobody s none port text .1
-empty-after s r none (Call.Renew port count seed password text) = renew-nobody s none port count seed password text .1
+empty-after s r none (Call.Renew port number count seed password text) = renew-nobody s none port number count seed password text .1
 empty-after s r none Call.Tick = tick-cools s (made s r) none
 
 -- "A table .. that no calls could make is still answered": there a port may be in line for an account that isn't there. Leave is done,
@@ -96,22 +96,22 @@ abbrev pub inTurn : ℕ → State → Answer
 inTurn port s = checkedAnswer (inOrder (portKnown port ∷ inLine port s ∷ inFront port s ∷ Checked.Refused Refusal.AccountMissing ∷ []))
 
 abbrev pub answerAnyway : Call → State → Answer
-answerAnyway (Call.Enrol id count seed password) s = checkedAnswer (ownChecks id count seed)
+answerAnyway (Call.Enrol id number count seed password) s = checkedAnswer (ownChecks id number count seed)
 answerAnyway (Call.Remove id) s = Answer.Refused Refusal.AccountMissing
 answerAnyway (Call.Join port id) s = atPort port Refusal.AccountMissing
 answerAnyway (Call.Leave port) s = checkedAnswer (inOrder (portKnown port ∷ inLine port s ∷ []))
 answerAnyway (Call.Challenge port room) s = inTurn port s
 answerAnyway (Call.Reply port text) s = inTurn port s
-answerAnyway (Call.Renew port count seed password text) s = inTurn port s
+answerAnyway (Call.Renew port number count seed password text) s = inTurn port s
 answerAnyway Call.Tick s = Answer.Done
 
 -- So it is in any table of 32 rooms, as every table has.
 pub any-empty-answers : (s : State) → length (s .rooms) ≡ 32 → accountsIn (s .rooms) ≡ 0 → (c : Call) → answer c s ≡ answerAnyway c s
-any-empty-answers s rooms none (Call.Enrol id count seed password) = enrol-first s none rooms id count seed password .0
+any-empty-answers s rooms none (Call.Enrol id number count seed password) = enrol-first s none rooms id number count seed password .0
 any-empty-answers s rooms none (Call.Remove id) = remove-nobody s none id .0
 any-empty-answers s rooms none (Call.Join port id) = join-nobody s none port id .0
 any-empty-answers s rooms none (Call.Leave port) = leave-answer port s
 any-empty-answers s rooms none (Call.Challenge port room) = challenge-nobody s none port room .0
 any-empty-answers s rooms none (Call.Reply port text) = reply-nobody s none port text .0
-any-empty-answers s rooms none (Call.Renew port count seed password text) = renew-nobody s none port count seed password text .0
+any-empty-answers s rooms none (Call.Renew port number count seed password text) = renew-nobody s none port number count seed password text .0
 any-empty-answers s rooms none Call.Tick = refl

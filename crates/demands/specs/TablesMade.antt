@@ -33,17 +33,17 @@ empty-line-turn-0 s r e = subst (λ (places : List Place). TurnRight places (s .
 
 -- What Enrol checks before 53: 50, 51, 23, 24, 52.
 abbrev pub beforeFull : ℕ → ℕ → List ℕ → State → Checked
-beforeFull id count seed s = inOrder (idGiven id ∷ countWithin count ∷ seedChecked seed ∷ idNew id s ∷ [])
+beforeFull id number count seed s = inOrder (idGiven id ∷ countWithin count ∷ algorithmChecked (numbered number) ∷ seedChecked seed ∷ idNew id s ∷ [])
 
 -- "53 is given exactly when 32 accounts are there", where the checks before it find nothing wrong.
-pub enrol-full-exactly : (s : State) → Reached s → (id count : ℕ) (seed password : List ℕ)
-    → (enrol id count seed password s .answer ≡ Checked.Refused Refusal.TableFull)
-    ↔ ((beforeFull id count seed s ≡ Checked.Good) × (accountsIn (s .rooms) ≡ 32))
-enrol-full-exactly s r id count seed password = enrol-full id count seed password s (housed s (made s r))
+pub enrol-full-exactly : (s : State) → Reached s → (id number count : ℕ) (seed password : List ℕ)
+    → (enrol id number count seed password s .answer ≡ Checked.Refused Refusal.TableFull)
+    ↔ ((beforeFull id number count seed s ≡ Checked.Good) × (accountsIn (s .rooms) ≡ 32))
+enrol-full-exactly s r id number count seed password = enrol-full id number count seed password s (housed s (made s r))
 
 -- "A removed account's room is used again": after a Remove that is done, from a full table too, an Enrol is done unless one of the
 -- checks before 53 refuses it.
-pub removed-room-is-used : (s : State) → Reached s → (gone : ℕ) → remove gone s .answer ≡ Checked.Good → (id count : ℕ) (seed password : List ℕ)
-    → beforeFull id count seed (remove gone s .state) ≡ Checked.Good
-    → enrol id count seed password (remove gone s .state) .answer ≡ Checked.Good
-removed-room-is-used s r gone e id count seed password good = removed-room-used gone s (housed s (made s r)) e id count seed password good
+pub removed-room-is-used : (s : State) → Reached s → (gone : ℕ) → remove gone s .answer ≡ Checked.Good → (id number count : ℕ) (seed password : List ℕ)
+    → beforeFull id number count seed (remove gone s .state) ≡ Checked.Good
+    → enrol id number count seed password (remove gone s .state) .answer ≡ Checked.Good
+removed-room-is-used s r gone e id number count seed password good = removed-room-used gone s (housed s (made s r)) e id number count seed password good

@@ -1,12 +1,13 @@
 -- Helper definitions of private functions: nothing outside this crate rests on them.
 use Prim.Native.Nat.{ℕ, _+_, _*_, _/_, _%_, zero, suc}
-use Rattle.password.specs.Password.{Algorithm, hash, bytesOf}
+use Rattle.password.specs.declared.algorithm.Algorithm.{Algorithm}
+use Rattle.password.specs.Password.{hash, bytesOf}
 
 -- The four bytes of a register, low-order byte first, read as a number with the first most significant.
 abbrev pub high4 : ℕ → ℕ
 high4 x = (x % 256) * 16777216 + (x / 256 % 256) * 65536 + (x / 65536 % 256) * 256 + x / 16777216 % 256
 
 -- The password n counts up from p.
-unfoldable pub chained : ℕ → ℕ → ℕ
-chained zero p = p
-chained (suc n) p = hash Algorithm.md5 (bytesOf (chained n p))
+unfoldable pub chained : Algorithm → ℕ → ℕ → ℕ
+chained algorithm zero p = p
+chained algorithm (suc n) p = hash algorithm (bytesOf (chained algorithm n p))

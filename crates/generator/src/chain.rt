@@ -5,6 +5,7 @@ ghost use Rattle.digests.specs.Padding.{word, little};
 ghost use Rattle.password.specs.Password as spec;
 use crate::fold::folded;
 use md5::compress::compress_eight;
+use password::algorithm::Algorithm;
 
 // Four bytes as a word of the block, low-order byte first.
 fn low_word(b0: u64, b1: u64, b2: u64, b3: u64) -> u32
@@ -15,8 +16,8 @@ fn low_word(b0: u64, b1: u64, b2: u64, b3: u64) -> u32
 }
 
 // The password one count up: the folded hash of the 8 bytes.
-pub fn step(p: u64) -> u64
-    ensures { λ r. ⌜ r ≡ spec.hash spec.md5 (spec.bytesOf p) ⌝ }
+pub fn step(algorithm: Algorithm, p: u64) -> u64
+    ensures { λ r. ⌜ r ≡ spec.hash algorithm (spec.bytesOf p) ⌝ }
 {
     let first = low_word(
         (p >> 56) % 256,

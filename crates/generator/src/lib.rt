@@ -10,6 +10,9 @@ ghost use Rattle.generator.specs.Inside.{chained};
 use crate::chain::step;
 use crate::fold::folded;
 use md5::compress::registers;
+use password::algorithm::Algorithm;
+use password::algorithm::Named;
+use password::algorithm::numbered;
 use password::phrase_and_seed::check_phrase;
 use password::phrase_and_seed::check_seed;
 use refusal::Checked;
@@ -22,9 +25,9 @@ mod fold;
 pub mod chain;
 
 // The folded hash of a message.
-fn hash(m: &[u8]) -> u64
+fn hash(algorithm: Algorithm, m: &[u8]) -> u64
     requires { ⌜ length (now m) ≤ 4096 ⌝ }
-    ensures { λ r. ⌜ r ≡ spec.hash spec.md5 (now (m .entry)) ⌝ }
+    ensures { λ r. ⌜ r ≡ spec.hash algorithm (now (m .entry)) ⌝ }
 {
     folded(registers(m))
 }
@@ -39,31 +42,31 @@ fn put_message(buf: &mut [u8], phrase: &[u8], seed: &[u8]) -> usize
 }
 
 // The password at count 0. The longest message is 16 bytes and 63.
-fn first(phrase: &[u8], seed: &[u8]) -> u64
+fn first(algorithm: Algorithm, phrase: &[u8], seed: &[u8]) -> u64
     requires { ⌜ (length (now phrase) ≤ 63) × (length (now seed) ≤ 16) ⌝ }
-    ensures { λ r. ⌜ r ≡ spec.password spec.md5 (now (phrase .entry)) (now (seed .entry)) 0 ⌝ }
+    ensures { λ r. ⌜ r ≡ spec.password algorithm (now (phrase .entry)) (now (seed .entry)) 0 ⌝ }
 {
     let mut m = [0u8; 79];
     let n = put_message(&mut m, phrase, seed);
-    hash(&m[..n])
+    hash(algorithm, &m[..n])
 }
 
 // The password n counts up from p.
-fn steps(p: u64, n: u32) -> u64
-    ensures { λ r. ⌜ r ≡ chained n p ⌝ }
+fn steps(algorithm: Algorithm, p: u64, n: u32) -> u64
+    ensures { λ r. ⌜ r ≡ chained algorithm n p ⌝ }
 {
     let mut x = p;
     let mut k = 0;
     while k < n {
-        x = step(x);
+        x = step(algorithm, x);
         k += 1;
     }
     x
 }
 
 // The password of a pass-phrase, a seed and a count, or the first fault in the order 10, 11, 23, 24, 13.
-pub fn generate(phrase: &[u8], seed: &[u8], count: u32) -> Reading
-    ensures { λ r. ⌜ r ≡ spec.generated spec.md5 (now (phrase .entry)) (now (seed .entry)) count ⌝ }
+pub fn generate_by(algorithm: Algorithm, phrase: &[u8], seed: &[u8], count: u32) -> Reading
+    ensures { λ r. ⌜ r ≡ spec.generatedBy algorithm (now (phrase .entry)) (now (seed .entry)) count ⌝ }
 {
     if let Checked::Refused(why) = check_phrase(phrase) {
         return Reading::Refused(why);
@@ -74,5 +77,15 @@ pub fn generate(phrase: &[u8], seed: &[u8], count: u32) -> Reading
     if 9999 < count {
         return Reading::Refused(Refusal::CountHigh);
     }
-    Reading::Password(steps(first(phrase, seed), count))
+    Reading::Password(steps(algorithm, first(algorithm, phrase, seed), count))
+}
+
+// The same by the algorithm's number: 21 before the other faults.
+pub fn generate(algorithm: u32, phrase: &[u8], seed: &[u8], count: u32) -> Reading
+    ensures { λ r. ⌜ r ≡ spec.generated algorithm (now (phrase .entry)) (now (seed .entry)) count ⌝ }
+{
+    let Named::Is(known) = numbered(algorithm) else {
+        return Reading::Refused(Refusal::AlgorithmUnknown);
+    };
+    generate_by(known, phrase, seed, count)
 }

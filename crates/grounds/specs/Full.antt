@@ -29,14 +29,14 @@ pub settled-answer : (s s′ : State) (check : Checked) → unless (refused s) c
 settled-answer s s′ Checked.Good = refl
 settled-answer s s′ (Checked.Refused why) = refl
 
-module _ (id count : ℕ) (seed password : List ℕ) (s : State) where
+module _ (id number count : ℕ) (seed password : List ℕ) (s : State) where
   -- The checks before 53, and then whether there is a room.
   abbrev before : List Checked
-  before = idGiven id ∷ countWithin count ∷ seedChecked seed ∷ idNew id s ∷ []
+  before = idGiven id ∷ countWithin count ∷ algorithmChecked (numbered number) ∷ seedChecked seed ∷ idNew id s ∷ []
 
-  enrol-answer : enrol id count seed password s .answer ≡ unless Checked.Refused (inOrder before) (inOrder (roomLeft s ∷ []))
+  enrol-answer : enrol id number count seed password s .answer ≡ unless Checked.Refused (inOrder before) (inOrder (roomLeft s ∷ []))
   unfolding enrol enrolChecked
-  enrol-answer = settled-answer s _ (enrolChecked id count seed s) ∙ sym (in-parts before (roomLeft s ∷ []))
+  enrol-answer = settled-answer s _ (enrolChecked id number count seed s) ∙ sym (in-parts before (roomLeft s ∷ []))
 
   other-checks : inOrder before ≡ Checked.Refused Refusal.TableFull → ⊥
   other-checks =
@@ -44,7 +44,7 @@ module _ (id count : ℕ) (seed password : List ℕ) (s : State) where
       ∷ ofSeed seed ∷ test (not (isThere id s)) Refusal.IdTaken ∷ []) refl
 
   pub enrol-full : Housed s
-      → (enrol id count seed password s .answer ≡ Checked.Refused Refusal.TableFull)
+      → (enrol id number count seed password s .answer ≡ Checked.Refused Refusal.TableFull)
       ↔ ((inOrder before ≡ Checked.Good) × (accountsIn (s .rooms) ≡ 32))
   enrol-full h = (
     λ e. let parts = go (inOrder before) (roomLeft s) other-checks (sym enrol-answer ∙ e) in (parts .0, full-exactly s h .0 (parts .1)),
@@ -58,15 +58,15 @@ module _ (id count : ℕ) (seed password : List ℕ) (s : State) where
       go Checked.Good (Checked.Refused why) n e = (refl, e)
       go (Checked.Refused why) k n e = absurd (n e)
 
-  pub enrol-taken : inOrder before ≡ Checked.Good → roomLeft s ≡ Checked.Good → enrol id count seed password s .answer ≡ Checked.Good
+  pub enrol-taken : inOrder before ≡ Checked.Good → roomLeft s ≡ Checked.Good → enrol id number count seed password s .answer ≡ Checked.Good
   enrol-taken e f = enrol-answer ∙ ap₂ (λ (j k : Checked). unless Checked.Refused j (inOrder (k ∷ []))) e f
 
 removed-there : (id : ℕ) (s : State) → remove id s .answer ≡ Checked.Good → isThere id s ≡ true
 unfolding remove
 removed-there id s e = must-good (isThere id s) Refusal.AccountMissing (sym (settled-answer s _ (accountThere id s)) ∙ e)
 
-pub removed-room-used : (gone : ℕ) (s : State) → Housed s → remove gone s .answer ≡ Checked.Good → (id count : ℕ) (seed password : List ℕ)
-    → inOrder (idGiven id ∷ countWithin count ∷ seedChecked seed ∷ idNew id (remove gone s .state) ∷ []) ≡ Checked.Good
-    → enrol id count seed password (remove gone s .state) .answer ≡ Checked.Good
-removed-room-used gone s h e id count seed password good =
-    enrol-taken id count seed password (remove gone s .state) good (removed-room-left gone s h (removed-there gone s e))
+pub removed-room-used : (gone : ℕ) (s : State) → Housed s → remove gone s .answer ≡ Checked.Good → (id number count : ℕ) (seed password : List ℕ)
+    → inOrder (idGiven id ∷ countWithin count ∷ algorithmChecked (numbered number) ∷ seedChecked seed ∷ idNew id (remove gone s .state) ∷ []) ≡ Checked.Good
+    → enrol id number count seed password (remove gone s .state) .answer ≡ Checked.Good
+removed-room-used gone s h e id number count seed password good =
+    enrol-taken id number count seed password (remove gone s .state) good (removed-room-left gone s h (removed-there gone s e))

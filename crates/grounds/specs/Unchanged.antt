@@ -15,7 +15,7 @@ use Rattle.refusal.specs.Checks.{unless}
 use Rattle.text.specs.Tests.{every, both}
 use Rattle.text.specs.Digits.{numberOf}
 use Rattle.text.specs.Scan.{tokens, unspaced}
-use Rattle.password.specs.Password.{Algorithm, bytesOf, hash}
+use Rattle.password.specs.Password.{bytesOf, hash}
 use Rattle.dictionary.specs.declared.Found.{Found}
 use Rattle.dictionary.specs.Dictionary.{placeOf}
 use Rattle.sixwords.specs.declared.Number.{Number}
@@ -47,7 +47,7 @@ module _ (why : Refusal) (other : isIn (listingOf why .0) (61 ∷ 62 ∷ []) ≡
       → repliedAnswer (offered port w next s .answer) ≡ Answer.Refused why → offered port w next s .state ≡ s
   unfolding offered
   offered-unchanged port w next s e =
-      go (eqb (hash Algorithm.md5 (bytesOf w)) (accountOf (turnId s) s .password)) (leb 3 (portOf port s .wrong + 1)) refl e
+      go (eqb (hash (accountOf (turnId s) s .algorithm) (bytesOf w)) (accountOf (turnId s) s .password)) (leb 3 (portOf port s .wrong + 1)) refl e
     where
       go : (t u : Bool) → leb 3 (portOf port s .wrong + 1) ≡ u
           → repliedAnswer (cond t (Steps.accepted port next s) (Steps.rejected port s) .answer) ≡ Answer.Refused why
@@ -66,7 +66,7 @@ module _ (why : Refusal) (other : isIn (listingOf why .0) (61 ∷ 62 ∷ []) ≡
 
   pub refused-unchanged : (c : Call) (s : State) → answer c s ≡ Answer.Refused why → after c s ≡ s
   unfolding Steps.enrol Steps.remove Steps.join Steps.leave Steps.reply Steps.replyRead Steps.renew Steps.renewRead
-  refused-unchanged (Call.Enrol id count seed password) s e = settled-unchanged s _ why (enrolChecked id count seed s) e
+  refused-unchanged (Call.Enrol id number count seed password) s e = settled-unchanged s _ why (enrolChecked id number count seed s) e
   refused-unchanged (Call.Remove id) s e = settled-unchanged s _ why (accountThere id s) e
   refused-unchanged (Call.Join port id) s e = settled-unchanged s _ why (joinChecked port id s) e
   refused-unchanged (Call.Leave port) s e = settled-unchanged s _ why (leaveChecked port s) e
@@ -74,8 +74,8 @@ module _ (why : Refusal) (other : isIn (listingOf why .0) (61 ∷ 62 ∷ []) ≡
   refused-unchanged (Call.Reply port text) s e =
       replied-unchanged s (turnChecked port s) (readingOf text) _
       (λ w. offered-unchanged port w (lowered (accountOf (turnId s) s) w) s) e
-  refused-unchanged (Call.Renew port count seed new text) s e =
-      replied-unchanged s (renewChecked port count seed s) (readingOf text) _
+  refused-unchanged (Call.Renew port number count seed new text) s e =
+      replied-unchanged s (renewChecked port number count seed s) (readingOf text) _
       (λ w. offered-unchanged port w (newRoom (accountOf (turnId s) s .id) count seed new) s) e
   refused-unchanged Call.Tick s e = let z : _≡_ {A = ℕ} 0 1 = cc in absurd (omega arith)
 

@@ -97,7 +97,7 @@ outside = Checked.Refused Refusal.PortNotInLine
 
 -- Enrol's own checks: 50, 51, 23, 24.
 abbrev pub ownChecks : ℕ → ℕ → List ℕ → Checked
-ownChecks id count seed = inOrder (idGiven id ∷ countWithin count ∷ seedChecked seed ∷ [])
+ownChecks id number count seed = inOrder (idGiven id ∷ countWithin count ∷ algorithmChecked (numbered number) ∷ seedChecked seed ∷ [])
 
 -- A turn's, where the account that the front waits for isn't there: 55, 59, 60, 54.
 abbrev pub inTurn : ℕ → State → Checked
@@ -112,26 +112,26 @@ module _ (s : State) (none : accountsIn (s .rooms) ≡ 0) where
       go (no n) = rw (ne-eqb id 0 n, nowhere id n (s .rooms) (all-free (s .rooms) none)) (le-ltb (length (s .rooms)) (length (s .rooms)) (le-refl _))
 
   -- No id is taken, and the first room is free.
-  pub enrol-first : length (s .rooms) ≡ 32 → (id count : ℕ) (seed password : List ℕ)
-      → (answer (Call.Enrol id count seed password) s ≡ checkedAnswer (ownChecks id count seed))
-      × (after (Call.Enrol id count seed password) s
-      ≡ unless (λ why. s) (ownChecks id count seed) (withRoom 0 (newRoom id count seed password) s))
+  pub enrol-first : length (s .rooms) ≡ 32 → (id number count : ℕ) (seed password : List ℕ)
+      → (answer (Call.Enrol id number count seed password) s ≡ checkedAnswer (ownChecks id number count seed))
+      × (after (Call.Enrol id number count seed password) s
+      ≡ unless (λ why. s) (ownChecks id number count seed) (withRoom 0 (newRoom id number count seed password) s))
   unfolding Steps.enrol enrolChecked
-  enrol-first rooms id count seed password =
+  enrol-first rooms id number count seed password =
       let vacant = first-free (s .rooms) rooms (all-free (s .rooms) none) in
-      let checked : enrolChecked id count seed s ≡ ownChecks id count seed =
+      let checked : enrolChecked id number count seed s ≡ ownChecks id number count seed =
       ap₂ (λ (taken room : Bool).
-      inOrder (idGiven id ∷ countWithin count ∷ seedChecked seed ∷ must (not taken) Refusal.IdTaken ∷ must room Refusal.TableFull ∷ []))
+      inOrder (idGiven id ∷ countWithin count ∷ algorithmChecked (numbered number) ∷ seedChecked seed ∷ must (not taken) Refusal.IdTaken ∷ must room Refusal.TableFull ∷ []))
       (not-there id) (vacant .1) in
-      let did = go (enrolChecked id count seed s) (placeOf 0 (s .rooms)) in (
+      let did = go (enrolChecked id number count seed s) (placeOf 0 (s .rooms)) in (
         did .0 ∙ ap checkedAnswer checked,
-        did .1 ∙ ap₂ (λ (k : Checked) (place : ℕ). unless (λ why. s) k (withRoom place (newRoom id count seed password) s)) checked (vacant .0),
+        did .1 ∙ ap₂ (λ (k : Checked) (place : ℕ). unless (λ why. s) k (withRoom place (newRoom id number count seed password) s)) checked (vacant .0),
       )
     where
       go : (k : Checked) (place : ℕ)
-          → (checkedAnswer (unless (refused s) k (done (withRoom place (newRoom id count seed password) s)) .answer) ≡ checkedAnswer k)
-          × (unless (refused s) k (done (withRoom place (newRoom id count seed password) s)) .state
-          ≡ unless (λ why. s) k (withRoom place (newRoom id count seed password) s))
+          → (checkedAnswer (unless (refused s) k (done (withRoom place (newRoom id number count seed password) s)) .answer) ≡ checkedAnswer k)
+          × (unless (refused s) k (done (withRoom place (newRoom id number count seed password) s)) .state
+          ≡ unless (λ why. s) k (withRoom place (newRoom id number count seed password) s))
       go Checked.Good place = (refl, refl)
       go (Checked.Refused why) place = (refl, refl)
 
@@ -166,20 +166,20 @@ module _ (s : State) (none : accountsIn (s .rooms) ≡ 0) where
   reply-nobody port text =
       replied-refused s (Steps.replyRead port text s) (turnChecked port s) (inTurn port s) (turn-checks port) (turn-refuses port)
 
-  renew-checks : (port count : ℕ) (seed : List ℕ) → renewChecked port count seed s ≡ inTurn port s
+  renew-checks : (port number count : ℕ) (seed : List ℕ) → renewChecked port number count seed s ≡ inTurn port s
   unfolding renewChecked
-  renew-checks port count seed = go (turnChecked port s) (turn-checks port)
+  renew-checks port number count seed = go (turnChecked port s) (turn-checks port)
     where
       go : (turn : Checked) → turn ≡ inTurn port s
-          → inOrder (turn ∷ countWithin count ∷ seedChecked seed ∷ seedNew seed (turnId s) s ∷ []) ≡ inTurn port s
+          → inOrder (turn ∷ countWithin count ∷ algorithmChecked (numbered number) ∷ seedChecked seed ∷ seedNew seed (turnId s) s ∷ []) ≡ inTurn port s
       go Checked.Good e = absurd (turn-refuses port (sym e))
       go (Checked.Refused why) e = e
 
-  pub renew-nobody : (port count : ℕ) (seed new text : List ℕ) → OnlyAnswers (Call.Renew port count seed new text) s (inTurn port s)
+  pub renew-nobody : (port number count : ℕ) (seed new text : List ℕ) → OnlyAnswers (Call.Renew port number count seed new text) s (inTurn port s)
   unfolding Steps.renew
-  renew-nobody port count seed new text =
-      replied-refused s (Steps.renewRead port count seed new text s) (renewChecked port count seed s) (inTurn port s)
-      (renew-checks port count seed) (turn-refuses port)
+  renew-nobody port number count seed new text =
+      replied-refused s (Steps.renewRead port number count seed new text s) (renewChecked port number count seed s) (inTurn port s)
+      (renew-checks port number count seed) (turn-refuses port)
 
 -- Leave, where a port may be in line.
 pub leave-answer : (port : ℕ) (s : State) → answer (Call.Leave port) s ≡ checkedAnswer (inOrder (portKnown port ∷ inLine port s ∷ []))

@@ -16,7 +16,7 @@ use Rattle.refusal.specs.Checks.{unless, inOrder}
 use Rattle.text.specs.Kinds.{lowerOf}
 use Rattle.text.specs.Tests.{every, same}
 use Rattle.password.specs.PhraseAndSeed.{seedChecked}
-use Rattle.password.specs.Password.{Algorithm, bytesOf, hash}
+use Rattle.password.specs.Password.{bytesOf, hash}
 use Rattle.challenge.specs.Challenges.{challengeText, challengeWritten}
 use Rattle.reply.specs.Reply.{readingOf}
 use Rattle.line.specs.Line.{standsIn}
@@ -64,9 +64,9 @@ module _ (why : Refusal) (wrong : isIn (listingOf why .0) (61 ∷ 62 ∷ []) ≡
       ∷ test (hasTurn port s) Refusal.PortNotInFront ∷ test (isThere (turnId s) s) Refusal.AccountMissing
       ∷ test (ltb 1 (accountOf (turnId s) s .count)) Refusal.AccountUsedUp ∷ []) refl
 
-  renew-other : (port count : ℕ) (seed : List ℕ) (s : State) → Other (renewChecked port count seed s)
+  renew-other : (port number count : ℕ) (seed : List ℕ) (s : State) → Other (renewChecked port number count seed s)
   unfolding renewChecked
-  renew-other port count seed s =
+  renew-other port number count seed s =
       then-never (61 ∷ 62 ∷ []) why wrong (turnChecked port s) _ (turn-other port s)
       (checks-other (test (leb 2 count && leb count 9999) Refusal.CountOutside ∷ ofSeed seed
       ∷ test (not (same (map lowerOf seed) (accountOf (turnId s) s .seed))) Refusal.SeedSame ∷ []) refl)
@@ -111,7 +111,7 @@ module _ (why : Refusal) (wrong : isIn (listingOf why .0) (61 ∷ 62 ∷ []) ≡
   offered-wrong : (port w : ℕ) (next : Room) (s : State) → repliedAnswer (offered port w next s .answer) ≡ Answer.Refused why
       → Rejected port s (offered port w next s .state)
   unfolding offered Rejected
-  offered-wrong port w next s = go (eqb (hash Algorithm.md5 (bytesOf w)) (accountOf (turnId s) s .password))
+  offered-wrong port w next s = go (eqb (hash (accountOf (turnId s) s .algorithm) (bytesOf w)) (accountOf (turnId s) s .password))
     where
       go : (t : Bool) → repliedAnswer (cond t (Steps.accepted port next s) (Steps.rejected port s) .answer) ≡ Answer.Refused why
           → (why ≡ wrongAnswer (portOf port s)) × (cond t (Steps.accepted port next s) (Steps.rejected port s) .state ≡ Steps.rejected port s .state)
@@ -138,8 +138,8 @@ module _ (why : Refusal) (wrong : isIn (listingOf why .0) (61 ∷ 62 ∷ []) ≡
 
   pub wrong-reply : (c : Call) (s : State) → answer c s ≡ Answer.Refused why → WrongReply why c s
   unfolding Steps.enrol Steps.remove Steps.join Steps.leave Steps.reply Steps.replyRead Steps.renew Steps.renewRead enrolChecked joinChecked leaveChecked
-  wrong-reply (Call.Enrol id count seed password) s e =
-      absurd (settled-other s _ (enrolChecked id count seed s)
+  wrong-reply (Call.Enrol id number count seed password) s e =
+      absurd (settled-other s _ (enrolChecked id number count seed s)
       (checks-other (test (not (eqb id 0)) Refusal.IdZero ∷ test (leb 2 count && leb count 9999) Refusal.CountOutside ∷ ofSeed seed
       ∷ test (not (isThere id s)) Refusal.IdTaken ∷ test (holds 0 (s .rooms)) Refusal.TableFull ∷ []) refl) e)
   wrong-reply (Call.Remove id) s e =
@@ -156,8 +156,8 @@ module _ (why : Refusal) (wrong : isIn (listingOf why .0) (61 ∷ 62 ∷ []) ≡
   wrong-reply (Call.Reply port text) s e =
       wrong-at port _ s (Presents.by-reply text)
       (replied-wrong port s (turnChecked port s) (turn-other port s) text (lowered (accountOf (turnId s) s)) e)
-  wrong-reply (Call.Renew port count seed new text) s e =
+  wrong-reply (Call.Renew port number count seed new text) s e =
       wrong-at port _ s (Presents.by-renew count seed new text)
-      (replied-wrong port s (renewChecked port count seed s) (renew-other port count seed s) text
+      (replied-wrong port s (renewChecked port number count seed s) (renew-other port number count seed s) text
       (λ w. newRoom (accountOf (turnId s) s .id) count seed new) e)
   wrong-reply Call.Tick s e = let z : _≡_ {A = ℕ} 0 1 = cc in absurd (omega arith)

@@ -7,7 +7,7 @@ use Rattle.refusal.specs.declared.Refusal.{Refusal}
 use Rattle.refusal.specs.declared.Checked.{Checked}
 use Rattle.refusal.specs.Checks.{must}
 
--- Enrol's checks, by their tests and by what is found of the values: 50, then 51, 23, 24, then 52, 53.
+-- Enrol's checks, by their tests and by what is found of the values: 50, then 51, 21, 23, 24, then 52, 53.
 abbrev pub enrolChecks : Bool → Checked → Bool → Bool → List Checked
 enrolChecks given values new room = must given Refusal.IdZero ∷ values ∷ must new Refusal.IdTaken ∷ must room Refusal.TableFull ∷ []
 

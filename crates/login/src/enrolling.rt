@@ -32,12 +32,19 @@ fn check_enrol(id: u16, values: Checked, place: usize, room: usize) -> Checked
     values
 }
 
-pub fn enrol(table: Table, id: u16, count: u16, seed: &[u8], password: &[u8; 8]) -> Settled
-    ensures { λ r. ⌜ steps.settled r ≡ steps.enrol id count (now (seed .entry)) (now (password .entry)) (view table) ⌝ }
+pub fn enrol(
+    table: Table,
+    id: u16,
+    algorithm: u32,
+    count: u16,
+    seed: &[u8],
+    password: &[u8; 8],
+) -> Settled
+    ensures { λ r. ⌜ steps.settled r ≡ steps.enrol id algorithm count (now (seed .entry)) (now (password .entry)) (view table) ⌝ }
 {
     let place = place_of(table, id);
     let room = place_of(table, 0);
-    let next = propose(FREE, id, count, seed, password);
+    let next = propose(FREE, id, algorithm, count, seed, password);
     let values = next.checked;
     let answer = check_enrol(id, values, place, room);
     if let Checked::Refused(_) = answer {

@@ -18,10 +18,11 @@ readingRow r =
 
 abbrev pub challengeRow : Challenge → LiftChallenge
 challengeRow c = record {
-  «seed_at» = challengeNumbers c .2;
-  «seed_len» = challengeNumbers c .3;
-  used = challengeNumbers c .4;
-  count = challengeNumbers c .1;
+  «seed_at» = challengeNumbers c .3;
+  «seed_len» = challengeNumbers c .4;
+  used = challengeNumbers c .5;
+  count = challengeNumbers c .2;
+  algorithm = challengeNumbers c .1;
   refusal = challengeNumbers c .0 .0;
 }
 

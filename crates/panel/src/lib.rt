@@ -1,13 +1,12 @@
 // The functions that the panel firmware calls from C (include/lift.h): numbers and byte slices only.
 // Each is a thin cover of a proved function, with its answer laid out as a C struct.
 ghost use Rattle.cards.specs.Cards.{cardOf, cardWritten};
-ghost use Rattle.challenge.specs.Challenges.{challengeOf, challengeText, challengeWritten};
+ghost use Rattle.challenge.specs.Challenges.{challengeOf, challengeNumbered, challengeWritten};
 ghost use Rattle.digests.specs.Md5.{md5};
 ghost use Rattle.hex.specs.Hex.{hexOf};
 ghost use Rattle.md5.specs.Digest.{digestOf};
 ghost use Rattle.panel.specs.Answers.{challengeRow, readingRow, Reported};
-ghost use Rattle.password.specs.Password as Password;
-ghost use Rattle.password.specs.Password.{numberOf, bytesOf};
+ghost use Rattle.password.specs.Password.{generated, numberOf, bytesOf};
 ghost use Rattle.reply.specs.Reply.{readingOf};
 ghost use Rattle.sixwords.specs.Spelling.{wordsOf};
 ghost use Rattle.text.specs.Put.{writtenOf};
@@ -34,10 +33,15 @@ pub extern "C" fn lift_md5(text: &[u8], digest: &mut [u8]) -> LiftWritten
 }
 
 #[no_mangle]
-pub extern "C" fn lift_password(phrase: &[u8], seed: &[u8], count: u32) -> LiftReading
-    ensures { λ r. ⌜ r ≡ readingRow (Password.generated Password.md5 (now (phrase .entry)) (now (seed .entry)) count) ⌝ }
+pub extern "C" fn lift_password(
+    algorithm: u32,
+    phrase: &[u8],
+    seed: &[u8],
+    count: u32,
+) -> LiftReading
+    ensures { λ r. ⌜ r ≡ readingRow (generated algorithm (now (phrase .entry)) (now (seed .entry)) count) ⌝ }
 {
-    reading_row(generator::generate(phrase, seed, count))
+    reading_row(generator::generate(algorithm, phrase, seed, count))
 }
 
 // Replies: reading one, writing one as hex or as words, and a password's eight bytes.
@@ -87,11 +91,16 @@ pub extern "C" fn lift_read_challenge(text: &[u8]) -> LiftChallenge
 }
 
 #[no_mangle]
-pub extern "C" fn lift_write_challenge(seed: &[u8], count: u32, buf: &mut [u8]) -> LiftWritten
-    ensures { λ r. ⌜ Reported (challengeWritten (now (seed .entry)) count (length (now (buf .entry))))
-        (challengeText (now (seed .entry)) count) (now (buf .entry)) (now (buf .exit)) r ⌝ }
+pub extern "C" fn lift_write_challenge(
+    algorithm: u32,
+    seed: &[u8],
+    count: u32,
+    buf: &mut [u8],
+) -> LiftWritten
+    ensures { λ r. ⌜ Reported (challengeWritten algorithm (now (seed .entry)) count (length (now (buf .entry))))
+        (challengeNumbered algorithm (now (seed .entry)) count) (now (buf .entry)) (now (buf .exit)) r ⌝ }
 {
-    written_row(challenge::writing::write(seed, count, buf))
+    written_row(challenge::writing::write(algorithm, seed, count, buf))
 }
 
 // The card.

@@ -2,6 +2,7 @@
 ghost use mathlib.Core.Path.{_≡_};
 ghost use Rattle.panel.specs.Answers.{challengeRow, readingRow, writtenRow};
 use challenge::reading::Challenge;
+use password::algorithm::number_of;
 use refusal::Reading;
 use refusal::Written;
 use refusal::listing_of;
@@ -19,6 +20,7 @@ pub struct LiftChallenge {
     pub seed_len: usize,
     pub used: usize,
     pub count: u32,
+    pub algorithm: u32, // by its number
     pub refusal: u32,
 }
 
@@ -68,6 +70,7 @@ pub fn challenge_row(challenge: Challenge) -> LiftChallenge
 {
     match challenge {
         Challenge::Read {
+            algorithm,
             count,
             start,
             len,
@@ -77,6 +80,7 @@ pub fn challenge_row(challenge: Challenge) -> LiftChallenge
             seed_len: len,
             used,
             count,
+            algorithm: number_of(algorithm),
             refusal: 0,
         },
         Challenge::Refused(why) => LiftChallenge {
@@ -84,6 +88,7 @@ pub fn challenge_row(challenge: Challenge) -> LiftChallenge
             seed_len: 0,
             used: 0,
             count: 0,
+            algorithm: 0,
             refusal: listing_of(why).0,
         },
     }

@@ -7,7 +7,8 @@ use lib.Bits.{bitXor, xor-lt}
 use Rattle.digests.specs.Lists.{upTo}
 use Rattle.digests.specs.Md5.{registers, bytes4, md5}
 use Rattle.text.specs.Kinds.{lowerOf}
-use Rattle.password.specs.Password.{Algorithm, fold, numberAfter, numberOf, bytesOf, hash, password}
+use Rattle.password.specs.declared.algorithm.Algorithm.{Algorithm}
+use Rattle.password.specs.Password.{fold, numberAfter, numberOf, bytesOf, hash, password}
 
 byte-xor : (x y : ℕ) → bitXor (x % 256) (y % 256) < 256
 byte-xor x y = xor-lt 8 (x % 256) (y % 256) (mod-lt x {m = 256} (omega arith)) (mod-lt y {m = 256} (omega arith))
@@ -26,7 +27,7 @@ fold-bound a b c d =
 
 pub hash-bound : (algorithm : Algorithm) (m : List ℕ) → hash algorithm m < 2 ^ 64
 unfolding hash md5
-hash-bound Algorithm.md5 m = fold-bound (registers m .a) (registers m .b) (registers m .c) (registers m .d)
+hash-bound algorithm m = fold-bound (registers m .a) (registers m .b) (registers m .c) (registers m .d)
 
 pub password-bound : (algorithm : Algorithm) (phrase seed : List ℕ) (n : ℕ) → password algorithm phrase seed n < 2 ^ 64
 unfolding password

@@ -10,14 +10,14 @@ use Rattle.digests.specs.Rounds.{compressed, rounds, performed, operation, roun
 use Rattle.text.specs.Quoted.{codes}
 use Rattle.text.specs.Tests.{every}
 use Rattle.password.specs.PhraseAndSeed.{plain}
-use Rattle.password.specs.Password.{Algorithm, fold, numberAfter, hash, password, generated}
+use Rattle.password.specs.Password.{fold, numberAfter, hash, password, generatedBy, generated}
 
 -- The pass-phrase `This is a test.` and the seed `TeSt`, at a count.
 unfoldable pub row : ℕ → Reading
-row count = generated Algorithm.md5 (codes "This is a test.") (codes "TeSt") count
+row count = generated 1 (codes "This is a test.") (codes "TeSt") count
 
 pub examples : map row (0 ∷ 1 ∷ [])
     ≡ Reading.Password 0x9e876134d90499dd ∷ Reading.Password 0x7965e05436f5029f ∷ []
-unfolding row codes generated plain every password hash fold numberAfter md5 registers
+unfolding row codes generated generatedBy plain every password hash fold numberAfter md5 registers
     absorbed compressed rounds performed operation round1 round2 round3 round4 blockAt paddedWord paddedByte upTo
 examples = refl

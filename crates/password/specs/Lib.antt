@@ -1,4 +1,6 @@
 -- Passwords, with a worked example; and laws for the crates above.
+pub mod Algorithm
+pub mod AlgorithmLaws
 pub mod Password
 pub mod Examples
 pub mod Laws

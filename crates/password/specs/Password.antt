@@ -12,6 +12,8 @@ use Rattle.refusal.specs.Checks.{unless}
 use Rattle.text.specs.Kinds.{lowerOf}
 use Rattle.digests.specs.Md5 as Md5
 use Rattle.password.specs.PhraseAndSeed.{phraseChecked, seedChecked}
+use Rattle.password.specs.Algorithm.{numbered, algorithmChecked, algorithmIn}
+use Rattle.password.specs.declared.algorithm.Algorithm.{Algorithm}
 -- "The 8 bytes are one 64-bit number, first byte most significant"
 unfoldable pub use Rattle.password.specs.EightBytes.{numberAfter}
 pub use Rattle.password.specs.EightBytes.{numberOf, bytesOf}
@@ -20,12 +22,9 @@ pub use Rattle.password.specs.EightBytes.{numberOf, bytesOf}
 unfoldable pub fold : List ℕ → List ℕ
 fold digest = upTo 8 (λ i. bitXor (getD digest i 0) (getD digest (i + 8) 0))
 
--- The hash that an algorithm's passwords are made with: its digest, folded. There is one so far.
-pub data Algorithm : Type 0 where
-  md5 : Algorithm
-
+-- The hash that an algorithm's passwords are made with: its digest, folded.
 unfoldable pub hash : Algorithm → List ℕ → ℕ
-hash md5 m = numberOf (fold (Md5.md5 m))
+hash algorithm m = numberOf (fold (Md5.md5 m))
 
 -- "Password at count 0: fold of MD5 of seed followed by pass-phrase", the seed "turned to lower case
 -- first"; "at count n+1: fold of MD5 of the 8 bytes at count n".
@@ -34,9 +33,15 @@ password algorithm phrase seed zero = hash algorithm (map lowerOf seed ++ phrase
 password algorithm phrase seed (suc n) = hash algorithm (bytesOf (password algorithm phrase seed n))
 
 -- "Counts are 0 to 9,999." "The generator checks 10, 11, 23, 24, 13 in that order."
-unfoldable pub generated : Algorithm → List ℕ → List ℕ → ℕ → Reading
-generated algorithm phrase seed count =
+unfoldable pub generatedBy : Algorithm → List ℕ → List ℕ → ℕ → Reading
+generatedBy algorithm phrase seed count =
     unless Reading.Refused (phraseChecked phrase)
     (unless Reading.Refused (seedChecked seed)
     (cond (ltb 9999 count) (Reading.Refused Refusal.CountHigh)
     (Reading.Password (password algorithm phrase seed count))))
+
+-- R-1: "an unknown algorithm gives 21 .. at the generator .. first". The algorithm is given by its number.
+unfoldable pub generated : ℕ → List ℕ → List ℕ → ℕ → Reading
+generated number phrase seed count =
+    unless Reading.Refused (algorithmChecked (numbered number))
+    (generatedBy (algorithmIn (numbered number)) phrase seed count)

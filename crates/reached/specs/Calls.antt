@@ -12,24 +12,24 @@ use Rattle.table.specs.Steps.{enrol, remove, join, leave, challenge, reply, ren
 
 -- A call with its arguments. Challenge is lent a buffer, of which only the room counts.
 pub data Call : Type 0 where
-  Enrol : (id count : ℕ) (seed password : List ℕ) → Call
+  Enrol : (id number count : ℕ) (seed password : List ℕ) → Call
   Remove : (id : ℕ) → Call
   Join : (port id : ℕ) → Call
   Leave : (port : ℕ) → Call
   Challenge : (port room : ℕ) → Call
   Reply : (port : ℕ) (text : List ℕ) → Call
-  Renew : (port count : ℕ) (seed password text : List ℕ) → Call
+  Renew : (port number count : ℕ) (seed password text : List ℕ) → Call
   Tick : Call
 
 -- The table after a call. Challenge only looks.
 abbrev pub after : Call → State → State
-after (Call.Enrol id count seed password) s = enrol id count seed password s .state
+after (Call.Enrol id number count seed password) s = enrol id number count seed password s .state
 after (Call.Remove id) s = remove id s .state
 after (Call.Join port id) s = join port id s .state
 after (Call.Leave port) s = leave port s .state
 after (Call.Challenge port room) s = s
 after (Call.Reply port text) s = reply port text s .state
-after (Call.Renew port count seed password text) s = renew port count seed password text s .state
+after (Call.Renew port number count seed password text) s = renew port number count seed password text s .state
 after Call.Tick s = tick s
 
 -- What a call answers: nothing to report, a new count, bytes written, or a refusal.
@@ -52,13 +52,13 @@ writtenAnswer (Written.Wrote n) = Answer.Wrote n
 writtenAnswer (Written.Refused why) = Answer.Refused why
 
 abbrev pub answer : Call → State → Answer
-answer (Call.Enrol id count seed password) s = checkedAnswer (enrol id count seed password s .answer)
+answer (Call.Enrol id number count seed password) s = checkedAnswer (enrol id number count seed password s .answer)
 answer (Call.Remove id) s = checkedAnswer (remove id s .answer)
 answer (Call.Join port id) s = checkedAnswer (join port id s .answer)
 answer (Call.Leave port) s = checkedAnswer (leave port s .answer)
 answer (Call.Challenge port room) s = writtenAnswer (challenge port room s)
 answer (Call.Reply port text) s = repliedAnswer (reply port text s .answer)
-answer (Call.Renew port count seed password text) s = repliedAnswer (renew port count seed password text s .answer)
+answer (Call.Renew port number count seed password text) s = repliedAnswer (renew port number count seed password text s .answer)
 answer Call.Tick s = Answer.Done
 
 -- The number and value of a call's answer: those of the enum that it answers with.

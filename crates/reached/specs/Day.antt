@@ -1,4 +1,4 @@
--- The words of the day of one password: a reply that steps an account down, a reply that is accepted, the way from the challenge to it,
+-- The words of the day of one password: a reply that steps an account down, a renewal, a reply that is accepted, the way from the challenge to it,
 -- and a wrong reply.
 use Prim.Native.Nat.{ℕ, _+_}
 use mathlib.Core.Path.{_≡_}
@@ -8,7 +8,9 @@ use Rattle.refusal.specs.declared.Refusal.{Refusal}
 use Rattle.refusal.specs.declared.Reading.{Reading}
 use Rattle.refusal.specs.declared.Written.{Written}
 use Rattle.text.specs.Put.{leaves}
-use Rattle.password.specs.Password.{Algorithm, bytesOf, hash, password, generated}
+use Rattle.password.specs.declared.algorithm.Algorithm.{Algorithm}
+use Rattle.password.specs.Algorithm.{algorithmNumber}
+use Rattle.password.specs.Password.{bytesOf, hash, password, generated}
 use Rattle.challenge.specs.declared.reading.Challenge.{Challenge}
 use Rattle.challenge.specs.Challenges.{challengeOf, seedOf}
 use Rattle.hex.specs.Hex.{hexOf}
@@ -17,48 +19,69 @@ use Rattle.line.specs.Line as Line
 use Rattle.port.specs.Port.{wrongly, wrongAnswer}
 use Rattle.table.specs.declared.Replied.{Replied}
 use Rattle.accounts.specs.Rooms.{Room}
+use Rattle.accounts.specs.Accounts.{newRoom}
 use Rattle.table.specs.Table.{State, accountOf, portOf}
 use Rattle.table.specs.Steps.{challengeFor, challenge, reply}
 use Rattle.reached.specs.Calls.{Call, after}
 
--- The account after an accepted reply, beside the one before: the same id and seed, the count lower by 1, and the password whose
--- hash is the one that was stored.
+-- The account after an accepted reply, beside the one before: the same id, algorithm and seed, the count lower by 1, and the password
+-- whose hash is the one that was stored.
 pub record SteppedDown (old new : Room) : Type 0 where
   pub same-id : new .id ≡ old .id
+  pub same-algorithm : new .algorithm ≡ old .algorithm
   pub same-seed : new .seed ≡ old .seed
   pub count-lower : new .count + 1 ≡ old .count
-  pub old-is-hash : old .password ≡ hash Algorithm.md5 (bytesOf (new .password))
+  pub old-is-hash : old .password ≡ hash (old .algorithm) (bytesOf (new .password))
+
+-- The account after an accepted renewal, beside the one before: the same id, with the new algorithm, count, seed and password. The password that
+-- was presented has the stored one as its hash, by the algorithm that the account had.
+pub record Renewed (number count : ℕ) (seed new : List ℕ) (old room : Room) : Type 0 where
+  pub becomes : room ≡ newRoom (old .id) number count seed new
+  pub presented : ℕ
+  pub old-is-hash : old .password ≡ hash (old .algorithm) (bytesOf presented)
+
+-- What a pass-phrase gives at a count, with the account's own algorithm and seed.
+abbrev pub passwordOf : List ℕ → Room → ℕ → ℕ
+passwordOf phrase room count = password (room .algorithm) phrase (room .seed) count
 
 -- The port's reply with this text is accepted: the answer is that count, and the account i has it then, with that password and its
--- seed as before.
+-- algorithm and seed as before.
 pub record Accepts (p i : ℕ) (text : List ℕ) (count new : ℕ) (s : State) : Type 0 where
   pub answered : reply p text s .answer ≡ Replied.Accepted count
-  pub kept : accountOf i (reply p text s .state) ≡ record { id = i; seed = accountOf i s .seed; count = count; password = new }
+  pub kept : accountOf i (reply p text s .state) ≡ record {
+    id = i;
+    algorithm = accountOf i s .algorithm;
+    seed = accountOf i s .seed;
+    count = count;
+    password = new;
+  }
 
--- Challenge, in the table s, writes a text into the buffer; read, it gives a count and a seed; with them and the pass-phrase the
--- generator gives a password; and the reply with it, in hex or in words, is accepted in the table t, the same or a later one. The count
--- is the stored one less 1, and the account has then what the pass-phrase gives at it.
+-- Challenge, in the table s, writes a text into the buffer; read, it gives an algorithm, a count and a seed; with them and the pass-phrase
+-- the generator gives a password; and the reply with it, in hex or in words, is accepted in the table t, the same or a later one. The
+-- algorithm is the account's own, the count is the stored one less 1, and the account has then what the pass-phrase gives at it.
 pub record Day (p i : ℕ) (phrase buffer : List ℕ) (s t : State) : Type 0 where
   pub written : ℕ
+  pub algorithm : Algorithm
   pub count : ℕ
   pub start : ℕ
   pub len : ℕ
   pub used : ℕ
   pub generated-as : ℕ
   pub challenge-written : challenge p (length buffer) s ≡ Written.Wrote written
-  pub challenge-read : challengeOf (take written (leaves (Written.Wrote written) (challengeFor s) buffer)) ≡ Challenge.Read count start len used
+  pub challenge-read : challengeOf (take written (leaves (Written.Wrote written) (challengeFor s) buffer)) ≡ Challenge.Read algorithm count start len used
   pub password-generated :
-      generated Algorithm.md5 phrase (seedOf (take written (leaves (Written.Wrote written) (challengeFor s) buffer))) count
+      generated (algorithmNumber algorithm) phrase (seedOf (take written (leaves (Written.Wrote written) (challengeFor s) buffer))) count
       ≡ Reading.Password generated-as
+  pub algorithm-own : algorithm ≡ accountOf i s .algorithm
   pub count-less : count + 1 ≡ accountOf i s .count
-  pub generated-is : generated-as ≡ password Algorithm.md5 phrase (accountOf i s .seed) count
+  pub generated-is : generated-as ≡ passwordOf phrase (accountOf i s) count
   pub hex-accepted : Accepts p i (hexOf generated-as) count generated-as t
   pub words-accepted : Accepts p i (wordsOf generated-as) count generated-as t
 
 -- The port presents a password with the call.
 pub data Presents (port : ℕ) : Call → Type 0 where
   by-reply : (text : List ℕ) → Presents port (Call.Reply port text)
-  by-renew : (count : ℕ) (seed new text : List ℕ) → Presents port (Call.Renew port count seed new text)
+  by-renew : (number count : ℕ) (seed new text : List ℕ) → Presents port (Call.Renew port number count seed new text)
 
 -- A wrong reply, which is answered with that refusal: 61, or 62 at the third in a row. It changes the port's own record, and the port leaves;
 -- the accounts and the other ports' records are as they were.

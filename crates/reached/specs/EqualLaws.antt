@@ -17,8 +17,9 @@ use Rattle.refusal.specs.Laws.{must-good}
 use Rattle.text.specs.Kinds.{lowerOf}
 use Rattle.text.specs.Tests.{both, same}
 use Rattle.password.specs.PhraseAndSeed.{seedChecked}
-use Rattle.password.specs.Password.{Algorithm, hash, bytesOf}
-use Rattle.challenge.specs.Challenges.{challengeWritten}
+use Rattle.password.specs.Algorithm.{numbered, algorithmChecked}
+use Rattle.password.specs.Password.{hash, bytesOf}
+use Rattle.challenge.specs.Challenges.{challengeWrittenBy}
 use Rattle.reply.specs.Reply.{readingOf}
 use Rattle.line.specs.Line.{Waiting}
 use Rattle.port.specs.declared.Port.{Port}
@@ -87,10 +88,10 @@ module _ (P : List Port) (W : Waiting) (l m : List Room) (h : SameAccounts l m) 
         let free-same : times 0 l ≡ times 0 m = omega (arith, accounts-free l, accounts-free m, a .all, b .all, same-count l m (a .once) (b .once) h) in
         holds-times 0 l ∙ ap (ltb 0) free-same ∙ sym (holds-times 0 m)
 
-    enrol-check : (id count : ℕ) (seed : List ℕ) → enrolChecked id count seed (table P W l) ≡ enrolChecked id count seed (table P W m)
+    enrol-check : (id number count : ℕ) (seed : List ℕ) → enrolChecked id number count seed (table P W l) ≡ enrolChecked id number count seed (table P W m)
     unfolding enrolChecked
-    enrol-check id count seed =
-        ap₂ (λ (a b : Bool). inOrder (idGiven id ∷ countWithin count ∷ seedChecked seed ∷ must (not a) Refusal.IdTaken ∷ must b Refusal.TableFull ∷ []))
+    enrol-check id number count seed =
+        ap₂ (λ (a b : Bool). inOrder (idGiven id ∷ countWithin count ∷ algorithmChecked (numbered number) ∷ seedChecked seed ∷ must (not a) Refusal.IdTaken ∷ must b Refusal.TableFull ∷ []))
         (there-same id) room-same
 
   -- A check that looks at an account, where it is there, and at its count.
@@ -119,13 +120,13 @@ module _ (P : List Port) (W : Waiting) (l m : List Room) (h : SameAccounts l m) 
       ∷ must there Refusal.AccountMissing ∷ must (ltb 1 count) Refusal.AccountUsedUp ∷ []))
       (λ n k. refl) (turnId (table P W l))
 
-  renew-check : (port count : ℕ) (seed : List ℕ) → renewChecked port count seed (table P W l) ≡ renewChecked port count seed (table P W m)
+  renew-check : (port number count : ℕ) (seed : List ℕ) → renewChecked port number count seed (table P W l) ≡ renewChecked port number count seed (table P W m)
   unfolding renewChecked
-  renew-check port count seed = by (turnChecked port (table P W l)) refl
+  renew-check port number count seed = by (turnChecked port (table P W l)) refl
     where
       renewBy : Checked → Room → Checked
       renewBy turn room =
-          inOrder (turn ∷ countWithin count ∷ seedChecked seed ∷ must (not (same (map lowerOf seed) (room .seed))) Refusal.SeedSame ∷ [])
+          inOrder (turn ∷ countWithin count ∷ algorithmChecked (numbered number) ∷ seedChecked seed ∷ must (not (same (map lowerOf seed) (room .seed))) Refusal.SeedSame ∷ [])
 
       by : (k : Checked) → turnChecked port (table P W l) ≡ k
           → renewBy (turnChecked port (table P W l)) (accountOf (turnId (table P W l)) (table P W l))
@@ -196,7 +197,7 @@ module _ (P : List Port) (W : Waiting) (l m : List Room) (h : SameAccounts l m) 
       by : (k : Checked) → turnChecked port (table P W l) ≡ k → steps.challenge port room (table P W l) ≡ steps.challenge port room (table P W m)
       by Checked.Good e =
           challenge-done port (table P W l) room e
-          ∙ ap (λ (r : Room). challengeWritten (r .seed) (r .count - 1) room) (account-same (turnId (table P W l)) (turn-passed port (table P W l) e .there))
+          ∙ ap (λ (r : Room). challengeWrittenBy (r .algorithm) (r .seed) (r .count - 1) room) (account-same (turnId (table P W l)) (turn-passed port (table P W l) e .there))
           ∙ sym (challenge-done port (table P W m) room (sym (turn-check port) ∙ e))
       by (Checked.Refused why) e =
           challenge-refused port (table P W l) room why e ∙ sym (challenge-refused port (table P W m) room why (sym (turn-check port) ∙ e))
@@ -212,7 +213,7 @@ module _ (P : List Port) (W : Waiting) (l m : List Room) (h : SameAccounts l m) 
   offered-alike port password next e n =
       subst (λ (b : Bool). Alike (cond right (steps.accepted port next s) (steps.rejected port s))
       (cond b (steps.accepted port next t) (steps.rejected port t)))
-      (ap (λ (r : Room). eqb (hash Algorithm.md5 (bytesOf password)) (r .password)) (account-same id e)) (by right)
+      (ap (λ (r : Room). eqb (hash (r .algorithm) (bytesOf password)) (r .password)) (account-same id e)) (by right)
     where
       id : ℕ
       id = turnId (table P W l)
@@ -224,7 +225,7 @@ module _ (P : List Port) (W : Waiting) (l m : List Room) (h : SameAccounts l m) 
       t = table P W m
 
       right : Bool
-      right = eqb (hash Algorithm.md5 (bytesOf password)) (accountOf id s .password)
+      right = eqb (hash (accountOf id s .algorithm) (bytesOf password)) (accountOf id s .password)
 
       at-l : placeOf id l < length l
       at-l = there-parts id l e .1
@@ -268,13 +269,13 @@ module _ (P : List Port) (W : Waiting) (l m : List Room) (h : SameAccounts l m) 
       checked-alike Replied.Refused _ _ (turn-check port) _ _
       (λ e. read-alike port text lowered (turn-passed port (table P W l) e .there) (λ room password. refl))
 
-  pub renew-alike : (port count : ℕ) (seed new text : List ℕ)
-      → Alike (steps.renew port count seed new text (table P W l)) (steps.renew port count seed new text (table P W m))
+  pub renew-alike : (port number count : ℕ) (seed new text : List ℕ)
+      → Alike (steps.renew port number count seed new text (table P W l)) (steps.renew port number count seed new text (table P W m))
   unfolding steps.renew steps.renewRead
-  renew-alike port count seed new text =
-      checked-alike Replied.Refused _ _ (renew-check port count seed) _ _
-      (λ e. read-alike port text (λ room password. newRoom (room .id) count seed new)
-      (turn-passed port (table P W l) (renew-passed port count seed (table P W l) e .turn) .there) (λ room password. refl))
+  renew-alike port number count seed new text =
+      checked-alike Replied.Refused _ _ (renew-check port number count seed) _ _
+      (λ e. read-alike port text (λ room password. newRoom (room .id) number count seed new)
+      (turn-passed port (table P W l) (renew-passed port number count seed (table P W l) e .turn) .there) (λ room password. refl))
 
   module _ (a : Housed (table P W l)) (b : Housed (table P W m)) where
     pub remove-alike : (id : ℕ) → Alike (steps.remove id (table P W l)) (steps.remove id (table P W m))
@@ -288,23 +289,23 @@ module _ (P : List Port) (W : Waiting) (l m : List Room) (h : SameAccounts l m) 
         (taken-same id (placeOf id l) (placeOf id m) (at .0) (at .1) (to .1) (placed-id id l (at .1))
         (placed-id id m (to .1)) (a .once id (at .0)) (b .once id (at .0))))
 
-    pub enrol-alike : (id count : ℕ) (seed password : List ℕ)
-        → Alike (steps.enrol id count seed password (table P W l)) (steps.enrol id count seed password (table P W m))
+    pub enrol-alike : (id number count : ℕ) (seed password : List ℕ)
+        → Alike (steps.enrol id number count seed password (table P W l)) (steps.enrol id number count seed password (table P W m))
     unfolding steps.enrol
-    enrol-alike id count seed password =
-        checked-alike Checked.Refused _ _ (enrol-check a b id count seed) _ _
+    enrol-alike id number count seed password =
+        checked-alike Checked.Refused _ _ (enrol-check a b id number count seed) _ _
         (λ e.
         let here = before l e in
-        let there = before m (sym (enrol-check a b id count seed) ∙ e) in
+        let there = before m (sym (enrol-check a b id number count seed) ∙ e) in
         alike Checked.Good P W _ _
-        (put-same (newRoom id count seed password) (placeOf 0 l) (placeOf 0 m) (here .0) (there .0) (here .1) (there .1)
+        (put-same (newRoom id number count seed password) (placeOf 0 l) (placeOf 0 m) (here .0) (there .0) (here .1) (there .1)
         (λ i g o w. g (sym w ∙ here .2)) (λ i g o w. g (sym w ∙ there .2))))
       where
         -- The first free room comes before any room that has the id, since none has it.
-        before : (r : List Room) → enrolChecked id count seed (table P W r) ≡ Checked.Good
+        before : (r : List Room) → enrolChecked id number count seed (table P W r) ≡ Checked.Good
             → (placeOf 0 r < length r) × (placeOf 0 r ≤ placeOf id r) × (getD r (placeOf 0 r) free .id ≡ 0)
         before r e =
-            let passed = enrol-passed id count seed (table P W r) e in
+            let passed = enrol-passed id number count seed (table P W r) e in
             let at : placeOf 0 r < length r = ltb-true (placeOf 0 r) (length r) (passed .room) in
             let none-held : holds id r ≡ false =
             sym (ap (λ (b : Bool). b && holds id r) (passed .given)) ∙ not-true (isThere id (table P W r)) (passed .new) in

@@ -14,13 +14,13 @@ pub record Reached (s : State) : Type 0 where
 
 -- How many ticks there are among the calls.
 abbrev pub tickOf : Call → ℕ
-tickOf (Call.Enrol id count seed password) = 0
+tickOf (Call.Enrol id number count seed password) = 0
 tickOf (Call.Remove id) = 0
 tickOf (Call.Join port id) = 0
 tickOf (Call.Leave port) = 0
 tickOf (Call.Challenge port room) = 0
 tickOf (Call.Reply port text) = 0
-tickOf (Call.Renew port count seed password text) = 0
+tickOf (Call.Renew port number count seed password text) = 0
 tickOf Call.Tick = 1
 
 unfoldable pub ticks : List Call → ℕ
@@ -30,13 +30,13 @@ ticks (call ∷ calls) = tickOf call + ticks calls
 -- "if its account isn't removed and the port only looks at its challenge meanwhile, whatever other ports do": the call does not
 -- remove the account i, and if it is the port p's own, it is Challenge.
 abbrev pub quiet : ℕ → ℕ → Call → Bool
-quiet p i (Call.Enrol id count seed password) = true
+quiet p i (Call.Enrol id number count seed password) = true
 quiet p i (Call.Remove id) = not (eqb id i)
 quiet p i (Call.Join port id) = not (eqb port p)
 quiet p i (Call.Leave port) = not (eqb port p)
 quiet p i (Call.Challenge port room) = true
 quiet p i (Call.Reply port text) = not (eqb port p)
-quiet p i (Call.Renew port count seed password text) = not (eqb port p)
+quiet p i (Call.Renew port number count seed password text) = not (eqb port p)
 quiet p i Call.Tick = true
 
 -- "meanwhile": each call is quiet up to the moment at which p has the turn for i.

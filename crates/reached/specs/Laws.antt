@@ -95,8 +95,8 @@ housed-run (call ∷ calls) s h = housed-run calls (after call s) (housed-after 
 -- isn't part of that": each call answers them equally and leaves them equal.
 alike-calls : (P : List Port) (W : Waiting) (l m : List Room) → Housed (table P W l) → Housed (table P W m) → Equal (table P W l) (table P W m) → (call : Call)
     → (answer call (table P W l) ≡ answer call (table P W m)) × Equal (after call (table P W l)) (after call (table P W m))
-alike-calls P W l m a b e (Call.Enrol id count seed password) =
-    let r = enrol-alike P W l m (e .accounts) a b id count seed password in
+alike-calls P W l m a b e (Call.Enrol id number count seed password) =
+    let r = enrol-alike P W l m (e .accounts) a b id number count seed password in
     (ap checkedAnswer (r .answer), r .state)
 alike-calls P W l m a b e (Call.Remove id) =
     let r = remove-alike P W l m (e .accounts) a b id in
@@ -111,8 +111,8 @@ alike-calls P W l m a b e (Call.Challenge port room) = (ap writtenAnswer (challe
 alike-calls P W l m a b e (Call.Reply port text) =
     let r = reply-alike P W l m (e .accounts) port text in
     (ap repliedAnswer (r .answer), r .state)
-alike-calls P W l m a b e (Call.Renew port count seed password text) =
-    let r = renew-alike P W l m (e .accounts) port count seed password text in
+alike-calls P W l m a b e (Call.Renew port number count seed password text) =
+    let r = renew-alike P W l m (e .accounts) port number count seed password text in
     (ap repliedAnswer (r .answer), r .state)
 alike-calls P W l m a b e Call.Tick = (refl, tick-equal P W l m (e .accounts))
 

@@ -15,7 +15,7 @@ use Rattle.text.specs.Kinds.{isUpper, isLower, isLetter, isDigit, lowerOf}
 use Rattle.text.specs.Tests.{every, both}
 use Rattle.password.specs.PhraseAndSeed.{plain, seedChecked}
 use Rattle.password.specs.PhraseAndSeedLaws.{good-seed}
-use Rattle.password.specs.Password.{Algorithm, hash, bytesOf}
+use Rattle.password.specs.Password.{hash, bytesOf}
 use Rattle.reply.specs.Reply.{readingOf}
 use Rattle.line.specs.Line as Line
 use Rattle.line.specs.Line.{standsIn}
@@ -84,9 +84,9 @@ seed-lower (b ∷ s) e =
     rw (kept-lower b (halves .0)) (seed-lower s (halves .1))
 
 -- What Enrol and Renew store is good.
-new-good : (id count : ℕ) (seed password : List ℕ) → (leb 2 count && leb count 9999) ≡ true → seedChecked seed ≡ Checked.Good
-    → AccountGood (newRoom id count seed password)
-new-good id count seed password e f =
+new-good : (id number count : ℕ) (seed password : List ℕ) → (leb 2 count && leb count 9999) ≡ true → seedChecked seed ≡ Checked.Good
+    → AccountGood (newRoom id number count seed password)
+new-good id number count seed password e f =
     let counts = both (leb 2 count) (leb count 9999) e in
     let from = leb-true 2 count (counts .0) in
     let good = good-seed seed f in
@@ -106,14 +106,14 @@ checked-outcome : {A : Type 0} (refuse : Refusal → A) (c : Call) (s : State) (
 checked-outcome refuse c s Checked.Good next z f = f refl
 checked-outcome refuse c s (Checked.Refused why) next z f = Outcome.nothing z
 
-enrol-outcome : (id count : ℕ) (seed password : List ℕ) (s : State)
-    → Outcome (Call.Enrol id count seed password) s (Steps.enrol id count seed password s .state)
+enrol-outcome : (id number count : ℕ) (seed password : List ℕ) (s : State)
+    → Outcome (Call.Enrol id number count seed password) s (Steps.enrol id number count seed password s .state)
 unfolding Steps.enrol
-enrol-outcome id count seed password s =
-    checked-outcome Checked.Refused (Call.Enrol id count seed password) s (enrolChecked id count seed s) _ refl
+enrol-outcome id number count seed password s =
+    checked-outcome Checked.Refused (Call.Enrol id number count seed password) s (enrolChecked id number count seed s) _ refl
     (λ e.
-    let passed = enrol-passed id count seed s e in
-    Outcome.enrolled refl (newRoom id count seed password) (new-good id count seed password (passed .within) (passed .good))
+    let passed = enrol-passed id number count seed s e in
+    Outcome.enrolled refl (newRoom id number count seed password) (new-good id number count seed password (passed .within) (passed .good))
     (eqb-false id 0 (not-true (eqb id 0) (passed .given))) (not-true (isThere id s) (passed .new)) (passed .room))
 
 remove-outcome : (id : ℕ) (s : State) → Outcome (Call.Remove id) s (Steps.remove id s .state)
@@ -165,7 +165,7 @@ offered-outcome : (c : Call) (port password : ℕ) (next : Room) (s : State) →
     → Outcome c s (offered port password next s .state)
 unfolding offered
 offered-outcome c port password next s z g n i a =
-    go (eqb (hash Algorithm.md5 (bytesOf password)) (accountOf (turnId s) s .password))
+    go (eqb (hash (accountOf (turnId s) s .algorithm) (bytesOf password)) (accountOf (turnId s) s .password))
   where
     go : (t : Bool) → Outcome c s (cond t (Steps.accepted port next s) (Steps.rejected port s) .state)
     go true = Outcome.accepted z port next g n i a
@@ -202,26 +202,26 @@ reply-outcome port text s =
           seed-kept = a .seed-kept;
         }
 
-renew-outcome : (port count : ℕ) (seed new text : List ℕ) (s : State)
-    → Outcome (Call.Renew port count seed new text) s (Steps.renew port count seed new text s .state)
+renew-outcome : (port number count : ℕ) (seed new text : List ℕ) (s : State)
+    → Outcome (Call.Renew port number count seed new text) s (Steps.renew port number count seed new text s .state)
 unfolding Steps.renew Steps.renewRead
-renew-outcome port count seed new text s =
-    checked-outcome Replied.Refused (Call.Renew port count seed new text) s (renewChecked port count seed s) _ refl
+renew-outcome port number count seed new text s =
+    checked-outcome Replied.Refused (Call.Renew port number count seed new text) s (renewChecked port number count seed s) _ refl
     (λ e.
-    let passed = renew-passed port count seed s e in
+    let passed = renew-passed port number count seed s e in
     let g = turn-good port s (passed .turn) in
     let id = accountOf (turnId s) s .id in
-    read-outcome (Call.Renew port count seed new text) port text (λ password. newRoom id count seed new) s refl g
+    read-outcome (Call.Renew port number count seed new text) port text (λ password. newRoom id number count seed new) s refl g
     (λ p i q. not-true (eqb port p) q) (λ password. turn-holder port s g)
-    (λ password a. new-good id count seed new (passed .within) (passed .good)))
+    (λ password a. new-good id number count seed new (passed .within) (passed .good)))
 
 -- Every call, on every table.
 pub outcome : (c : Call) (s : State) → Outcome c s (after c s)
-outcome (Call.Enrol id count seed password) s = enrol-outcome id count seed password s
+outcome (Call.Enrol id number count seed password) s = enrol-outcome id number count seed password s
 outcome (Call.Remove id) s = remove-outcome id s
 outcome (Call.Join port id) s = join-outcome port id s
 outcome (Call.Leave port) s = leave-outcome port s
 outcome (Call.Challenge port room) s = Outcome.nothing refl
 outcome (Call.Reply port text) s = reply-outcome port text s
-outcome (Call.Renew port count seed password text) s = renew-outcome port count seed password text s
+outcome (Call.Renew port number count seed password text) s = renew-outcome port number count seed password text s
 outcome Call.Tick s = Outcome.ticked refl

@@ -1,4 +1,4 @@
--- What the challenge writer writes reads back: the same count, the seed in lower case, all its bytes used.
+-- What the challenge writer writes reads back: the same algorithm and count, the seed in lower case, all its bytes used.
 use Prim.Native.Nat.{ℕ, suc, _+_, _≤_, _<_}
 use mathlib.Core.Path.{_≡_, refl, sym, _∙_, ap, ap₂}
 use mathlib.Core.Bool.{Bool, true, false, true≢false, cond, not, _&&_, _||_}
@@ -15,13 +15,17 @@ use Rattle.text.specs.Scan.{runOf}
 use Rattle.text.specs.ScanLaws.{run-until}
 use Rattle.text.specs.Digits.{numberOf}
 use Rattle.text.specs.Quoted.{codes}
+use Rattle.password.specs.declared.algorithm.Algorithm.{Algorithm}
+use Rattle.password.specs.declared.algorithm.Named.{Named}
+use Rattle.password.specs.Algorithm.{algorithmName, named}
+use Rattle.password.specs.AlgorithmLaws.{name-named}
 use Rattle.password.specs.PhraseAndSeed.{plain, seedChecked}
 use Rattle.password.specs.PhraseAndSeedLaws.{good-seed}
 use Rattle.text.specs.Counts.{isCount, widthOf, decimalOf}
 use Rattle.text.specs.CountLaws.{width-few, length-decimal}
 use Rattle.readback.specs.CountRead.{digits-decimal, decimal-count, decimal-number}
 use Rattle.challenge.specs.declared.reading.Challenge.{Challenge}
-use Rattle.challenge.specs.Challenges.{opening, algorithm, tokenAt, endOf, nextAt, countAt, seedAt, terminated, challengeOf, seedOf, challengeText}
+use Rattle.challenge.specs.Challenges.{opening, tokenAt, endOf, nextAt, countAt, seedAt, terminated, challengeOf, seedOf, challengeText}
 use Rattle.challenge.specs.Laws.{length-challenge, from-seed, all-good, seed-part}
 
 -- ---- the bytes that are written end no token
@@ -105,22 +109,42 @@ starts (b ∷ t) rest e h = by (isBlank b) refl (both (inToken b) (every inToken
 
 -- ---- the written challenge, step by step
 
-module _ (seed : List ℕ) (count : ℕ) (good : seedChecked seed ≡ Checked.Good) (low : count ≤ 9999) where
+name-token : (algorithm : Algorithm) → every inToken (algorithmName algorithm) ≡ true
+unfolding algorithmName codes every
+name-token Algorithm.Md5 = refl
+name-token Algorithm.Sha1 = refl
+
+module _ (algorithm : Algorithm) (seed : List ℕ) (count : ℕ) (good : seedChecked seed ≡ Checked.Good) (low : count ≤ 9999) where
   abbrev text : List ℕ
-  text = challengeText seed count
+  text = challengeText algorithm seed count
+
+  -- what stands before the count, and before the seed
+  abbrev head : List ℕ
+  head = opening ++ algorithmName algorithm ++ 32 ∷ []
+
+  abbrev front : List ℕ
+  front = opening ++ algorithmName algorithm ++ 32 ∷ [] ++ decimalOf count ++ 32 ∷ []
 
   -- the text as its tokens stand in it
-  name-there : text ≡ opening ++ (algorithm ++ 32 ∷ (decimalOf count ++ 32 ∷ (map lowerOf seed ++ 10 ∷ [])))
+  name-there : text ≡ opening ++ (algorithmName algorithm ++ 32 ∷ (decimalOf count ++ 32 ∷ (map lowerOf seed ++ 10 ∷ [])))
   unfolding challengeText
   name-there = simp append-assoc
 
-  count-there : text ≡ (opening ++ algorithm ++ 32 ∷ []) ++ (decimalOf count ++ 32 ∷ (map lowerOf seed ++ 10 ∷ []))
+  count-there : text ≡ head ++ (decimalOf count ++ 32 ∷ (map lowerOf seed ++ 10 ∷ []))
   unfolding challengeText
   count-there = simp append-assoc
 
-  seed-there : text ≡ (opening ++ algorithm ++ 32 ∷ [] ++ decimalOf count ++ 32 ∷ []) ++ (map lowerOf seed ++ 10 ∷ [])
+  seed-there : text ≡ front ++ (map lowerOf seed ++ 10 ∷ [])
   unfolding challengeText
   seed-there = simp append-assoc
+
+  before-count : length head ≡ 5 + length (algorithmName algorithm)
+  unfolding opening codes
+  before-count = simp length-append (omega arith)
+
+  before-seed : length front ≡ 6 + length (algorithmName algorithm) + widthOf count
+  unfolding opening codes
+  before-seed = simp length-append (omega (arith, length-decimal count))
 
   count-token : every inToken (decimalOf count) ≡ true
   count-token = every-weaker isDigit inToken digit-token (decimalOf count) (digits-decimal (widthOf count) count)
@@ -132,61 +156,54 @@ module _ (seed : List ℕ) (count : ℕ) (good : seedChecked seed ≡ Checked.Go
   unfolding opening codes
   opening-read = ap (λ (l : List ℕ). same (take 4 l) opening) name-there ∙ same-self opening
 
-  name-read : tokenAt text 4 ≡ algorithm
-  unfolding opening algorithm codes every
-  name-read = ap (λ (l : List ℕ). tokenAt l 4) name-there ∙ token-there opening algorithm 32 _ refl refl
+  name-read : named (tokenAt text 4) ≡ Named.Is algorithm
+  unfolding opening codes
+  name-read =
+      ap (λ (l : List ℕ). named (tokenAt l 4)) name-there
+      ∙ ap named (token-there opening (algorithmName algorithm) 32 _ (name-token algorithm) refl)
+      ∙ name-named algorithm
 
-  count-at : countAt text ≡ 8
-  unfolding countAt opening algorithm codes every
+  count-at : countAt text ≡ length head
+  unfolding countAt opening codes
   count-at =
       ap (λ (l : List ℕ). nextAt l 4) name-there
-      ∙ next-there opening algorithm (decimalOf count ++ 32 ∷ (map lowerOf seed ++ 10 ∷ [])) refl
+      ∙ next-there opening (algorithmName algorithm) (decimalOf count ++ 32 ∷ (map lowerOf seed ++ 10 ∷ [])) (name-token algorithm)
       (starts (decimalOf count) _ count-token (omega (arith, width-few count, length-decimal count)))
+      ∙ omega (arith, before-count)
 
   count-read : tokenAt text (countAt text) ≡ decimalOf count
-  unfolding opening algorithm codes
-  count-read =
-      ap (tokenAt text) count-at ∙ ap (λ (l : List ℕ). tokenAt l 8) count-there
-      ∙ token-there (opening ++ algorithm ++ 32 ∷ []) (decimalOf count) 32 _ count-token refl
+  count-read = ap₂ tokenAt count-there count-at ∙ token-there head (decimalOf count) 32 _ count-token refl
 
-  seed-at : seedAt text ≡ 9 + widthOf count
-  unfolding seedAt opening algorithm codes
+  seed-at : seedAt text ≡ length front
+  unfolding seedAt
   seed-at =
-      ap (nextAt text) count-at ∙ ap (λ (l : List ℕ). nextAt l 8) count-there
-      ∙ next-there (opening ++ algorithm ++ 32 ∷ []) (decimalOf count) (map lowerOf seed ++ 10 ∷ []) count-token
+      ap₂ nextAt count-there count-at
+      ∙ next-there head (decimalOf count) (map lowerOf seed ++ 10 ∷ []) count-token
       (starts (map lowerOf seed) _ seed-token (omega (arith, good-seed seed good .0, length-map seed lowerOf)))
-      ∙ omega (arith, length-decimal count)
-
-  before-seed : length (opening ++ algorithm ++ 32 ∷ [] ++ decimalOf count ++ 32 ∷ []) ≡ 9 + widthOf count
-  unfolding opening algorithm codes
-  before-seed = simp length-append (omega (arith, length-decimal count))
+      ∙ omega (arith, before-count, before-seed, length-decimal count)
 
   seed-read : tokenAt text (seedAt text) ≡ map lowerOf seed
-  seed-read =
-      ap₂ tokenAt seed-there (seed-at ∙ sym before-seed)
-      ∙ token-there (opening ++ algorithm ++ 32 ∷ [] ++ decimalOf count ++ 32 ∷ []) (map lowerOf seed) 10 [] seed-token refl
+  seed-read = ap₂ tokenAt seed-there seed-at ∙ token-there front (map lowerOf seed) 10 [] seed-token refl
 
   end-at : endOf text (seedAt text) + 1 ≡ length text
-  end-at = omega (arith, seed-at, ap length seed-read, length-map seed lowerOf, length-challenge seed count)
+  end-at = omega (arith, seed-at, before-seed, ap length seed-read, length-map seed lowerOf, length-challenge algorithm seed count)
 
   ended : terminated (drop (endOf text (seedAt text)) text) ≡ true
   ended =
-      let before = opening ++ algorithm ++ 32 ∷ [] ++ decimalOf count ++ 32 ∷ [] in
-      let at : endOf text (seedAt text) ≡ length before + length (map lowerOf seed) =
-      ap₂ (λ (k : ℕ) (l : List ℕ). k + length l) (seed-at ∙ sym before-seed) seed-read in
+      let at : endOf text (seedAt text) ≡ length front + length (map lowerOf seed) = ap₂ (λ (k : ℕ) (l : List ℕ). k + length l) seed-at seed-read in
       ap₂ (λ (k : ℕ) (l : List ℕ). terminated (drop k l)) at seed-there
-      ∙ ap terminated (past-there before (map lowerOf seed) 10 [] seed-token refl)
+      ∙ ap terminated (past-there front (map lowerOf seed) 10 [] seed-token refl)
 
-  -- the count, the seed's place, and all the bytes
-  pub written-read : challengeOf (challengeText seed count) ≡ Challenge.Read count (9 + widthOf count) (length seed) (length (challengeText seed count))
-  unfolding algorithm codes
+  -- the algorithm, the count, the seed's place, and all the bytes
+  pub written-read : challengeOf (challengeText algorithm seed count)
+      ≡ Challenge.Read algorithm count (6 + length (algorithmName algorithm) + widthOf count) (length seed) (length (challengeText algorithm seed count))
   written-read =
-      from-seed text opening-read (ap (λ (t : List ℕ). same t algorithm) name-read ∙ same-self algorithm)
+      from-seed text opening-read algorithm name-read
       (ap isCount count-read ∙ decimal-count count low) count (ap (numberOf 10) count-read ∙ decimal-number count low)
-      ∙ all-good text count (seedAt text) (ap seedChecked seed-read ∙ lower-good seed good) ended
-      ∙ ap₂ (λ (s l : ℕ). Challenge.Read count s l (endOf text (seedAt text) + 1)) seed-at (ap length seed-read ∙ length-map seed lowerOf)
-      ∙ ap (Challenge.Read count (9 + widthOf count) (length seed)) end-at
+      ∙ all-good text algorithm count (seedAt text) (ap seedChecked seed-read ∙ lower-good seed good) ended
+      ∙ ap₂ (λ (s l : ℕ). Challenge.Read algorithm count s l (endOf text (seedAt text) + 1)) (seed-at ∙ before-seed) (ap length seed-read ∙ length-map seed lowerOf)
+      ∙ ap (Challenge.Read algorithm count (6 + length (algorithmName algorithm) + widthOf count) (length seed)) end-at
 
   -- the seed in lower case
-  pub written-seed-read : seedOf (challengeText seed count) ≡ map lowerOf seed
-  written-seed-read = seed-part count (9 + widthOf count) (length seed) (length text) text written-read ∙ seed-read
+  pub written-seed-read : seedOf (challengeText algorithm seed count) ≡ map lowerOf seed
+  written-seed-read = seed-part algorithm count _ (length seed) (length text) text written-read ∙ seed-read

@@ -8,8 +8,9 @@ use Rattle.refusal.specs.declared.Refusal.{Refusal}
 use Rattle.refusal.specs.declared.Checked.{Checked}
 use Rattle.refusal.specs.declared.Written.{Written}
 use Rattle.refusal.specs.Laws.{must-good, each-good}
+use Rattle.password.specs.Algorithm.{numbered, algorithmChecked}
 use Rattle.password.specs.PhraseAndSeed.{seedChecked}
-use Rattle.challenge.specs.Challenges.{challengeWritten}
+use Rattle.challenge.specs.Challenges.{challengeWrittenBy}
 use Rattle.line.specs.Line.{standsIn, joined, left, removed}
 use Rattle.accounts.specs.Rooms.{free, holds, placeOf}
 use Rattle.accounts.specs.Accounts.{newRoom, countWithin}
@@ -20,33 +21,35 @@ use Rattle.table.specs.Steps.{enrolChecked, joinChecked, leaveChecked, t
 
 -- ---- Enrol
 
-pub record EnrolPassed (id count : ℕ) (seed : List ℕ) (s : State) : Type 0 where
+pub record EnrolPassed (id number count : ℕ) (seed : List ℕ) (s : State) : Type 0 where
   pub given : not (eqb id 0) ≡ true
   pub within : (leb 2 count && leb count 9999) ≡ true
+  pub algorithm : algorithmChecked (numbered number) ≡ Checked.Good
   pub good : seedChecked seed ≡ Checked.Good
   pub new : not (isThere id s) ≡ true
   pub room : holds 0 (s .rooms) ≡ true
 
-module _ (id count : ℕ) (seed : List ℕ) (s : State) where
-  pub enrol-passed : enrolChecked id count seed s ≡ Checked.Good → EnrolPassed id count seed s
+module _ (id number count : ℕ) (seed : List ℕ) (s : State) where
+  pub enrol-passed : enrolChecked id number count seed s ≡ Checked.Good → EnrolPassed id number count seed s
   unfolding enrolChecked
   enrol-passed e =
-      let found = each-good (idGiven id ∷ countWithin count ∷ seedChecked seed ∷ idNew id s ∷ roomLeft s ∷ []) e in
+      let found = each-good (idGiven id ∷ countWithin count ∷ algorithmChecked (numbered number) ∷ seedChecked seed ∷ idNew id s ∷ roomLeft s ∷ []) e in
       record {
         given = must-good _ _ (found .0);
         within = must-good _ _ (found .1 .0);
-        good = found .1 .1 .0;
-        new = must-good _ _ (found .1 .1 .1 .0);
-        room = must-good _ _ (found .1 .1 .1 .1 .0);
+        algorithm = found .1 .1 .0;
+        good = found .1 .1 .1 .0;
+        new = must-good _ _ (found .1 .1 .1 .1 .0);
+        room = must-good _ _ (found .1 .1 .1 .1 .1 .0);
       }
 
-  pub enrol-refused : (password : List ℕ) (why : Refusal) → enrolChecked id count seed s ≡ Checked.Refused why
-      → steps.enrol id count seed password s ≡ steps.refused s why
+  pub enrol-refused : (password : List ℕ) (why : Refusal) → enrolChecked id number count seed s ≡ Checked.Refused why
+      → steps.enrol id number count seed password s ≡ steps.refused s why
   unfolding steps.enrol
   enrol-refused password why e = rw e
 
-  pub enrol-done : (password : List ℕ) → enrolChecked id count seed s ≡ Checked.Good
-      → steps.enrol id count seed password s ≡ steps.done (withRoom (placeOf 0 (s .rooms)) (newRoom id count seed password) s)
+  pub enrol-done : (password : List ℕ) → enrolChecked id number count seed s ≡ Checked.Good
+      → steps.enrol id number count seed password s ≡ steps.done (withRoom (placeOf 0 (s .rooms)) (newRoom id number count seed password) s)
   unfolding steps.enrol
   enrol-done password e = rw e
 
@@ -108,9 +111,10 @@ pub record TurnPassed (port : ℕ) (s : State) : Type 0 where
   pub there : isThere (turnId s) s ≡ true
   pub unused : ltb 1 (accountOf (turnId s) s .count) ≡ true
 
-pub record RenewPassed (port count : ℕ) (seed : List ℕ) (s : State) : Type 0 where
+pub record RenewPassed (port number count : ℕ) (seed : List ℕ) (s : State) : Type 0 where
   pub turn : turnChecked port s ≡ Checked.Good
   pub within : (leb 2 count && leb count 9999) ≡ true
+  pub algorithm : algorithmChecked (numbered number) ≡ Checked.Good
   pub good : seedChecked seed ≡ Checked.Good
   pub new : seedNew seed (turnId s) s ≡ Checked.Good
 
@@ -132,13 +136,19 @@ module _ (port : ℕ) (s : State) where
   challenge-refused room why e = rw e
 
   pub challenge-done : (room : ℕ) → turnChecked port s ≡ Checked.Good
-      → steps.challenge port room s ≡ challengeWritten (accountOf (turnId s) s .seed) (accountOf (turnId s) s .count - 1) room
+      → steps.challenge port room s ≡ challengeWrittenBy (accountOf (turnId s) s .algorithm) (accountOf (turnId s) s .seed) (accountOf (turnId s) s .count - 1) room
   unfolding steps.challenge
   challenge-done room e = rw e
 
-module _ (port count : ℕ) (seed : List ℕ) (s : State) where
-  pub renew-passed : renewChecked port count seed s ≡ Checked.Good → RenewPassed port count seed s
+module _ (port number count : ℕ) (seed : List ℕ) (s : State) where
+  pub renew-passed : renewChecked port number count seed s ≡ Checked.Good → RenewPassed port number count seed s
   unfolding renewChecked
   renew-passed e =
-      let found = each-good (turnChecked port s ∷ countWithin count ∷ seedChecked seed ∷ seedNew seed (turnId s) s ∷ []) e in
-      record { turn = found .0; within = must-good _ _ (found .1 .0); good = found .1 .1 .0; new = found .1 .1 .1 .0 }
+      let found = each-good (turnChecked port s ∷ countWithin count ∷ algorithmChecked (numbered number) ∷ seedChecked seed ∷ seedNew seed (turnId s) s ∷ []) e in
+      record {
+        turn = found .0;
+        within = must-good _ _ (found .1 .0);
+        algorithm = found .1 .1 .0;
+        good = found .1 .1 .1 .0;
+        new = found .1 .1 .1 .1 .0;
+      }

@@ -1,4 +1,4 @@
--- The written steps, one for each call: document 01, 'Table, ports and turns', in its order and words.
+-- The written steps, one for each call: document 01, 'Table, ports and turns', in its order and words; document 02, R-1.
 use Prim.Native.Nat.{ℕ, _-_}
 use mathlib.Core.Bool.{cond}
 use mathlib.Core.List.{List, [], _∷_, map}
@@ -11,8 +11,9 @@ use Rattle.refusal.specs.declared.Written.{Written}
 use Rattle.refusal.specs.Numbers.{listingOf, unrefused}
 use Rattle.refusal.specs.Checks.{unless, inOrder}
 use Rattle.password.specs.PhraseAndSeed.{seedChecked}
-use Rattle.password.specs.Password.{Algorithm, hash, bytesOf}
-use Rattle.challenge.specs.Challenges.{challengeText, challengeWritten}
+use Rattle.password.specs.Algorithm.{numbered, algorithmChecked}
+use Rattle.password.specs.Password.{hash, bytesOf}
+use Rattle.challenge.specs.Challenges.{challengeText, challengeWrittenBy}
 use Rattle.reply.specs.Reply.{readingOf}
 use Rattle.line.specs.Line.{joined, left, removed, ticked}
 use Rattle.port.specs.Port.{wrongly, wrongAnswer, rightly, cooled}
@@ -51,15 +52,15 @@ replyRefused s why = record { answer = Replied.Refused why; state = s }
 abbrev pub done : State → After Checked
 done s = record { answer = Checked.Good; state = s }
 
--- Enrol: 50, 51, 23, 24, 52, 53. The first free room is taken.
-unfoldable pub enrolChecked : ℕ → ℕ → List ℕ → State → Checked
-enrolChecked id count seed s =
-    inOrder (idGiven id ∷ countWithin count ∷ seedChecked seed ∷ idNew id s ∷ roomLeft s ∷ [])
+-- Enrol: 50, 51, then R-1's 21 "after 51", 23, 24, 52, 53. The first free room is taken. The algorithm is given by its number.
+unfoldable pub enrolChecked : ℕ → ℕ → ℕ → List ℕ → State → Checked
+enrolChecked id number count seed s =
+    inOrder (idGiven id ∷ countWithin count ∷ algorithmChecked (numbered number) ∷ seedChecked seed ∷ idNew id s ∷ roomLeft s ∷ [])
 
-unfoldable pub enrol : ℕ → ℕ → List ℕ → List ℕ → State → After Checked
-enrol id count seed password s =
-    unless (refused s) (enrolChecked id count seed s)
-    (done (withRoom (placeOf 0 (s .rooms)) (newRoom id count seed password) s))
+unfoldable pub enrol : ℕ → ℕ → ℕ → List ℕ → List ℕ → State → After Checked
+enrol id number count seed password s =
+    unless (refused s) (enrolChecked id number count seed s)
+    (done (withRoom (placeOf 0 (s .rooms)) (newRoom id number count seed password) s))
 
 -- Remove: 54. "Every port in line for that account, the front one too, leaves it."
 unfoldable pub remove : ℕ → State → After Checked
@@ -92,17 +93,17 @@ unfoldable pub turnChecked : ℕ → State → Checked
 turnChecked port s =
     inOrder (portKnown port ∷ inLine port s ∷ inFront port s ∷ accountThere (turnId s) s ∷ notUsedUp (turnId s) s ∷ [])
 
--- Challenge: 55, 59, 60, 58, 40. "Writes stored count less 1 and the seed": the text, and the answer on a buffer with so
--- much room. The writer's own checks, 23, 24 and 13, fail in no table that calls make.
+-- Challenge: 55, 59, 60, 58, 40. "Writes stored count less 1 and the seed", for the account's algorithm: the text, and the answer on
+-- a buffer with so much room. The writer's own checks, 23, 24 and 13, fail in no table that calls make.
 abbrev pub challengeFor : State → List ℕ
-challengeFor s = challengeText (accountOf (turnId s) s .seed) (accountOf (turnId s) s .count - 1)
+challengeFor s = challengeText (accountOf (turnId s) s .algorithm) (accountOf (turnId s) s .seed) (accountOf (turnId s) s .count - 1)
 
 unfoldable pub challenge : ℕ → ℕ → State → Written
 challenge port room s =
     unless Written.Refused (turnChecked port s)
-    (challengeWritten (accountOf (turnId s) s .seed) (accountOf (turnId s) s .count - 1) room)
+    (challengeWrittenBy (accountOf (turnId s) s .algorithm) (accountOf (turnId s) s .seed) (accountOf (turnId s) s .count - 1) room)
 
--- "Hash the password once. If it equals the stored one" the account becomes `next`, the port's wrong run is cleared and "the
+-- "Hash the password once", by the account's present algorithm. "If it equals the stored one" the account becomes `next`, the port's wrong run is cleared and "the
 -- port leaves; the answer has the new count. If not: the port leaves and its wrong run grows by 1, answer 61 [or] 62".
 abbrev pub accepted : ℕ → Room → State → After Replied
 accepted port next s = record {
@@ -118,7 +119,7 @@ rejected port s = record {
 
 unfoldable pub offered : ℕ → ℕ → Room → State → After Replied
 offered port password next s =
-    cond (eqb (hash Algorithm.md5 (bytesOf password)) (accountOf (turnId s) s .password))
+    cond (eqb (hash (accountOf (turnId s) s .algorithm) (bytesOf password)) (accountOf (turnId s) s .password))
     (accepted port next s) (rejected port s)
 
 -- "then 30 to 33": what is done with the password that a text says; a refusal to read it is the answer.
@@ -134,19 +135,19 @@ replyRead port text s =
 unfoldable pub reply : ℕ → List ℕ → State → After Replied
 reply port text s = unless (replyRefused s) (turnChecked port s) (replyRead port text s)
 
--- Renew: 55, 59, 60, 58, 51, 23, 24, 63, then 30 to 33, "then as Reply, but on a match the account takes the new count,
--- seed and password".
-unfoldable pub renewChecked : ℕ → ℕ → List ℕ → State → Checked
-renewChecked port count seed s =
-    inOrder (turnChecked port s ∷ countWithin count ∷ seedChecked seed ∷ seedNew seed (turnId s) s ∷ [])
+-- Renew: 55, 59, 60, 58, 51, 21, 23, 24, 63, then 30 to 33, "then as Reply, but on a match the account takes the new count,
+-- seed and password"; R-1: "renewal may change" the algorithm.
+unfoldable pub renewChecked : ℕ → ℕ → ℕ → List ℕ → State → Checked
+renewChecked port number count seed s =
+    inOrder (turnChecked port s ∷ countWithin count ∷ algorithmChecked (numbered number) ∷ seedChecked seed ∷ seedNew seed (turnId s) s ∷ [])
 
-unfoldable pub renewRead : ℕ → ℕ → List ℕ → List ℕ → List ℕ → State → After Replied
-renewRead port count seed new text s =
-    read s (readingOf text) (λ password. offered port password (newRoom (accountOf (turnId s) s .id) count seed new) s)
+unfoldable pub renewRead : ℕ → ℕ → ℕ → List ℕ → List ℕ → List ℕ → State → After Replied
+renewRead port number count seed new text s =
+    read s (readingOf text) (λ password. offered port password (newRoom (accountOf (turnId s) s .id) number count seed new) s)
 
-unfoldable pub renew : ℕ → ℕ → List ℕ → List ℕ → List ℕ → State → After Replied
-renew port count seed new text s =
-    unless (replyRefused s) (renewChecked port count seed s) (renewRead port count seed new text s)
+unfoldable pub renew : ℕ → ℕ → ℕ → List ℕ → List ℕ → List ℕ → State → After Replied
+renew port number count seed new text s =
+    unless (replyRefused s) (renewChecked port number count seed s) (renewRead port number count seed new text s)
 
 -- Tick: "each shut count above 0 falls by 1; then, if the line isn't empty, the turn falls by 1, and at 0 the front port
 -- leaves".

@@ -34,7 +34,7 @@ renewRead port text next t = read t (readingOf text) (λ password. offered port 
 abbrev pub renewChecked : ℕ → Checked → Seen → Checked
 renewChecked port values t = unless Checked.Refused (frontChecked port (t .line) (t .account)) values
 
-unfoldable pub renewed : ℕ → ℕ → List ℕ → List ℕ → List ℕ → Seen → Said
-renewed port count seed new text t =
-    unless (refused t) (renewChecked port (valuesChecked count seed (t .account)) t)
-    (renewRead port text (newRoom (t .account .id) count seed new) t)
+unfoldable pub renewed : ℕ → ℕ → ℕ → List ℕ → List ℕ → List ℕ → Seen → Said
+renewed port number count seed new text t =
+    unless (refused t) (renewChecked port (valuesChecked number count seed (t .account)) t)
+    (renewRead port text (newRoom (t .account .id) number count seed new) t)

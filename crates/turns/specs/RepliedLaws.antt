@@ -46,15 +46,15 @@ module _ (port : ℕ) (s : State) where
       after-unless (frontChecked port (s .line) account) (replyRead port text (seenBy port s)) (steps.replyRead port text s) said
       ∙ ap (λ (k : Checked). unless (steps.replyRefused s) k (steps.replyRead port text s)) (front-checked port s)
 
-  pub after-renew : (count : ℕ) (seed new text : List ℕ) → after port s (renewed port count seed new text (seenBy port s))
-      ≡ steps.renew port count seed new text s
+  pub after-renew : (number count : ℕ) (seed new text : List ℕ) → after port s (renewed port number count seed new text (seenBy port s))
+      ≡ steps.renew port number count seed new text s
   unfolding renewed renewRead steps.renew steps.renewRead steps.renewChecked valuesChecked
-  after-renew count seed new text =
+  after-renew number count seed new text =
       let account = accountOf (turnId s) s in
-      let next = newRoom (account .id) count seed new in
+      let next = newRoom (account .id) number count seed new in
       let said = after-read (readingOf text) (λ password. offered port password next (seenBy port s))
       (λ password. steps.offered port password next s) (λ password. after-offered port s password next) in
-      after-unless (renewChecked port (valuesChecked count seed account) (seenBy port s))
-      (renewRead port text next (seenBy port s)) (steps.renewRead port count seed new text s) said
-      ∙ ap (λ (k : Checked). unless (steps.replyRefused s) (unless Checked.Refused k (valuesChecked count seed account))
-      (steps.renewRead port count seed new text s)) (front-checked port s)
+      after-unless (renewChecked port (valuesChecked number count seed account) (seenBy port s))
+      (renewRead port text next (seenBy port s)) (steps.renewRead port number count seed new text s) said
+      ∙ ap (λ (k : Checked). unless (steps.replyRefused s) (unless Checked.Refused k (valuesChecked number count seed account))
+      (steps.renewRead port number count seed new text s)) (front-checked port s)

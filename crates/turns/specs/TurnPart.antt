@@ -3,7 +3,7 @@ use Prim.Native.Nat.{ℕ}
 use mathlib.Core.Bool.{cond}
 use lib.Dec.{eqb}
 use Rattle.refusal.specs.declared.Refusal.{Refusal}
-use Rattle.password.specs.Password.{Algorithm, hash, bytesOf}
+use Rattle.password.specs.Password.{hash, bytesOf}
 use Rattle.line.specs.Line.{Waiting, waiting, left}
 use Rattle.port.specs.declared.Port.{Port}
 use Rattle.port.specs.Port.{wrongly, wrongAnswer, rightly}
@@ -68,4 +68,4 @@ rejected port t = record {
 
 unfoldable pub offered : ℕ → ℕ → Room → Seen → Said
 offered port password next t =
-    cond (eqb (hash Algorithm.md5 (bytesOf password)) (t .account .password)) (accepted port next t) (rejected port t)
+    cond (eqb (hash (t .account .algorithm) (bytesOf password)) (t .account .password)) (accepted port next t) (rejected port t)

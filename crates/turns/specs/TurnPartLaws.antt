@@ -4,7 +4,7 @@ use mathlib.Core.Path.{_≡_, refl}
 use mathlib.Core.Bool.{Bool, true, false, cond}
 use lib.Dec.{eqb}
 use Rattle.refusal.specs.declared.Refusal.{Refusal}
-use Rattle.password.specs.Password.{Algorithm, hash, bytesOf}
+use Rattle.password.specs.Password.{hash, bytesOf}
 use Rattle.accounts.specs.Rooms.{Room, free}
 use Rattle.table.specs.HeldLaws.{set-same}
 use Rattle.table.specs.declared.Replied.{Replied}
@@ -30,7 +30,7 @@ module _ (port : ℕ) (s : State) where
   -- What is offered.
   pub after-offered : (password : ℕ) (next : Room) → after port s (offered port password next (seenBy port s)) ≡ steps.offered port password next s
   unfolding offered steps.offered
-  after-offered password next = by (eqb (hash Algorithm.md5 (bytesOf password)) (accountOf (turnId s) s .password))
+  after-offered password next = by (eqb (hash (accountOf (turnId s) s .algorithm) (bytesOf password)) (accountOf (turnId s) s .password))
     where
       by : (b : Bool) → after port s (cond b (accepted port next (seenBy port s)) (rejected port (seenBy port s)))
           ≡ cond b (steps.accepted port next s) (steps.rejected port s)

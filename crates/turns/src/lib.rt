@@ -124,12 +124,13 @@ pub fn reply(table: Table, port: u8, text: &[u8]) -> Answered
 pub fn renew(
     table: Table,
     port: u8,
+    algorithm: u32,
     count: u16,
     seed: &[u8],
     password: &[u8; 8],
     text: &[u8],
 ) -> Answered
-    ensures { λ r. ⌜ steps.answered r ≡ steps.renew port count (now (seed .entry)) (now (password .entry)) (now (text .entry)) (view table) ⌝ }
+    ensures { λ r. ⌜ steps.answered r ≡ steps.renew port algorithm count (now (seed .entry)) (now (password .entry)) (now (text .entry)) (view table) ⌝ }
 {
     let line = table.line;
     let place = place_of(table, turn_id(line));
@@ -137,6 +138,6 @@ pub fn renew(
     put_back(
         table,
         port,
-        renewed(turn, port, count, seed, password, text),
+        renewed(turn, port, algorithm, count, seed, password, text),
     )
 }

@@ -62,12 +62,13 @@ fn rejected(turn: TurnPart, port: u8) -> Outcome
     }
 }
 
-// Where the hash is the stored password, the account becomes `next`.
+// Where the hash, by the account's present algorithm, is the stored password, the account becomes `next`.
 pub fn offer(turn: TurnPart, port: u8, password: u64, next: Account) -> Outcome
     ensures { λ r. ⌜ outcome r ≡ spec.offered port password (roomOf next) (seen turn) ⌝ }
 {
     let account = turn.account;
-    if step(password) == account.password {
+    let algorithm = account.algorithm;
+    if step(algorithm, password) == account.password {
         return accepted(turn, port, next);
     }
     rejected(turn, port)

@@ -85,15 +85,16 @@ fn check_renew(turn: TurnPart, port: u8, values: Checked) -> Checked
 pub fn renewed(
     turn: TurnPart,
     port: u8,
+    algorithm: u32,
     count: u16,
     seed: &[u8],
     password: &[u8; 8],
     text: &[u8],
 ) -> Outcome
-    ensures { λ r. ⌜ outcome r ≡ spec.renewed port count (now (seed .entry)) (now (password .entry)) (now (text .entry)) (seen turn) ⌝ }
+    ensures { λ r. ⌜ outcome r ≡ spec.renewed port algorithm count (now (seed .entry)) (now (password .entry)) (now (text .entry)) (seen turn) ⌝ }
 {
     let present = turn.account;
-    let next = propose(present, present.id, count, seed, password);
+    let next = propose(present, present.id, algorithm, count, seed, password);
     let values = next.checked;
     if let Checked::Refused(why) = check_renew(turn, port, values) {
         return Outcome {

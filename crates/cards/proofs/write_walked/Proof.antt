@@ -16,8 +16,8 @@ returns c phrase seed e =
     let start = walk .before .before in
     let a = start .args in
     subst (λ (t : List ℕ). Writes t (a .buf .now) (call .write-lines .last .1 .1 .1 .0) (call .write-lines .result))
-    (walked phrase seed (walk .walk .result) (a .n) (a .k) (start .pre .0) (start .pre .2)
-    (subst (λ (p : ℕ). Falling p (a .k) (walk .walk .result)) e (walk .walk .ensures)))
+    (walked (a .algorithm) phrase seed (walk .walk .result) (a .n) (a .k) (start .pre .0) (start .pre .2)
+    (subst (λ (p : ℕ). Falling (a .algorithm) p (a .k) (walk .walk .result)) e (walk .walk .ensures)))
     (call .write-lines .ensures)
 
 pub write-walked-spec : {M : Type 1} → statement M

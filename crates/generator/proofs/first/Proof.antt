@@ -7,7 +7,7 @@ use native.Mathlib.Omega.{arith}
 use lib.ListN.{length, take, length-append, length-map, length-take}
 use lib.Seq.{take-at, length-take-le}
 use Rattle.text.specs.Kinds.{lowerOf}
-use Rattle.password.specs.Password.{Algorithm, hash, password}
+use Rattle.password.specs.Password.{hash, password}
 use Rattle.generator.proofs.first.Statement.{statement}
 use Rattle.generator.proofs.first.Tie as tie
 
@@ -28,7 +28,7 @@ returns c =
     let a = c .before .before .before .before .before .before .before .args in
     let put = c .before .before .before .put-message .ensures in
     c .hash .ensures
-    ∙ ap (hash Algorithm.md5)
+    ∙ ap (hash (a .algorithm))
     (ap₂ (λ (n : ℕ) (l : List ℕ). take n l) (put .0) (put .1)
     ∙ take-at (map lowerOf (a .seed .now) ++ a .phrase .now) _ _ refl)
 

@@ -1,47 +1,28 @@
--- `generate` meets its promise: the checks in their order, then the chain from the password at count 0.
-use mathlib.Core.Path.{_≡_, sym, ap, _∙_}
+-- `generate` meets its promise: 21, and behind it the generator by the algorithm.
+use mathlib.Core.Path.{sym, _∙_}
 use borrow.Author.Needs.{needs}
-use Rattle.refusal.specs.declared.Checked.{Checked}
 use Rattle.refusal.specs.declared.Reading.{Reading}
-use Rattle.password.specs.PhraseAndSeed.{phraseChecked, seedChecked}
-use Rattle.password.specs.PhraseAndSeedLaws.{good-phrase, good-seed}
-use Rattle.password.specs.Password.{Algorithm}
-use Rattle.password.specs.Laws.{refused-phrase, refused-seed, refused-count, generated-good}
-use Rattle.generator.specs.Inside.{chained}
-use Rattle.generator.proofs.Chained.{chained-password}
+use Rattle.password.specs.declared.algorithm.Algorithm.{Algorithm}
+use Rattle.password.specs.AlgorithmLaws.{unknown-refused, known-done}
+use Rattle.password.specs.Password.{generatedBy, generated}
 use Rattle.generator.proofs.generate.Statement.{statement}
 use Rattle.generator.proofs.generate.Tie as tie
 
-phrase-good : (c : tie.After-enum-told) → phraseChecked (c .before .before .before .before .before .args .phrase .now) ≡ Checked.Good
-phrase-good c = sym (c .before .before .check-phrase .ensures) ∙ c .enum-told .given .1
-
-seed-good : (c : tie.After-enum-told2) → seedChecked (c .before .before .before .before .before .before .before .before .args .seed .now) ≡ Checked.Good
-seed-good c = sym (c .before .before .check-seed .ensures) ∙ c .enum-told2 .given .1
-
 returns : tie.Need-returns
+unfolding generated
 returns c =
-    sym (refused-phrase Algorithm.md5 _ _ _ _ (sym (c .before .before .before .check-phrase .ensures) ∙ c .before .why .given .1))
+    let a = c .before .before .before .before .before .args in
+    let by : Algorithm → Reading = λ algorithm. generatedBy algorithm (a .phrase .now) (a .seed .now) (a .count) in
+    unknown-refused Reading.Refused by _ (sym (c .before .before .numbered .ensures) ∙ c .enum-told .given .1)
 
 returns-2 : tie.Need-returns-2
+unfolding generated
 returns-2 c =
-    sym (refused-seed Algorithm.md5 _ _ _ _ (phrase-good (c .before .before .before .before))
-    (sym (c .before .before .before .check-seed .ensures) ∙ c .before .why2 .given .1))
-
-returns-3 : tie.Need-returns-3
-returns-3 c = sym (refused-count Algorithm.md5 _ _ _ (phrase-good (c .before .before .before .before)) (seed-good (c .before)) (c .if1 .taken))
-
-returns-4 : tie.Need-returns-4
-returns-4 c =
-    let told = c .before .before .before in
-    ap Reading.Password (c .steps .ensures ∙ ap (chained _) (c .before .first .ensures) ∙ chained-password _ _ _)
-    ∙ sym (generated-good Algorithm.md5 _ _ _ (phrase-good (told .before .before .before)) (seed-good told) (c .before .before .if1 .left))
-
-first-requires : tie.Need-first-requires
-first-requires c κs =
-    let a = c .before .before .before .before .before .before .before .before .before .args in (
-      good-phrase (a .phrase .now) (phrase-good (c .before .before .before .before)) .1,
-      good-seed (a .seed .now) (seed-good (c .before)) .1,
-    )
+    let told = c .before .before in
+    let a = told .before .before .before .before .before .args in
+    let by : Algorithm → Reading = λ algorithm. generatedBy algorithm (a .phrase .now) (a .seed .now) (a .count) in
+    c .generate-by .ensures
+    ∙ known-done Reading.Refused by _ _ (sym (told .before .before .numbered .ensures) ∙ told .known .given .1)
 
 pub generate-spec : {M : Type 1} → statement M
 generate-spec =
@@ -49,13 +30,7 @@ generate-spec =
     (tie.spec
     (λ c κs. search needs)
     (λ c. search needs)
+    (λ c. search needs)
     returns
-    (λ c. search needs)
     (λ c κs. search needs)
-    (λ c. search needs)
-    returns-2
-    (λ c. search needs)
-    returns-3
-    first-requires
-    (λ c κs. search needs)
-    returns-4)
+    returns-2)

@@ -4,16 +4,16 @@ use mathlib.Core.Path.{_≡_, refl, ap, _∙_}
 use borrow.Author.Needs.{needs}
 use native.Mathlib.Numerals.{add-one}
 use native.Mathlib.Omega.{arith}
-use Rattle.password.specs.Password.{Algorithm, hash, bytesOf}
+use Rattle.password.specs.Password.{hash, bytesOf}
 use Rattle.generator.specs.Inside.{chained}
 use Rattle.generator.proofs.steps.Statement.{statement}
 use Rattle.generator.proofs.steps.Tie as tie
 
 abbrev Inv-loop : tie.InvT-loop
-Inv-loop p n x₀ k₀ x k = (k ≤ n) × (x ≡ chained k p)
+Inv-loop algorithm p n x₀ k₀ x k = (k ≤ n) × (x ≡ chained algorithm k p)
 
 abbrev μ-loop : tie.MeasureT-loop
-μ-loop p n x₀ k₀ x k = n - k
+μ-loop algorithm p n x₀ k₀ x k = n - k
 
 loop-holds : tie.Need-loop-holds Inv-loop μ-loop
 unfolding chained
@@ -23,13 +23,13 @@ loop-again : tie.Need-loop-again Inv-loop μ-loop
 unfolding chained
 loop-again c = (
   omega arith,
-  rw add-one (c .step .ensures ∙ ap (λ (x : ℕ). hash Algorithm.md5 (bytesOf x)) (c .before .before .loop .inv .1)),
+  rw add-one (c .step .ensures ∙ ap (λ (x : ℕ). hash (c .before .before .before .args .algorithm) (bytesOf x)) (c .before .before .loop .inv .1)),
 )
 
 returns : tie.Need-returns Inv-loop μ-loop
 returns c =
     let all : c .before .loop .k ≡ c .before .before .args .n = omega arith in
-    c .before .loop .inv .1 ∙ ap (λ (k : ℕ). chained k (c .before .before .args .p)) all
+    c .before .loop .inv .1 ∙ ap (λ (k : ℕ). chained (c .before .before .args .algorithm) k (c .before .before .args .p)) all
 
 pub steps-spec : {M : Type 1} → statement M
 steps-spec =

@@ -8,13 +8,14 @@ use native.Mathlib.Numerals.{add-one}
 use lib.Dec.{eqb, ltb}
 use lib.ListN.{length, getD, drop, set, length-map, drop-of-length-le, List·getD-map, List·getD-eq-default}
 use lib.Seq.{drop-cons}
+use Rattle.password.specs.declared.algorithm.Algorithm.{Algorithm}
 use Rattle.accounts.specs.declared.Account.{Account}
 use Rattle.accounts.specs.Laws.{set-past}
 use Rattle.accounts.specs.Rooms.{Room, free, roomOf, placeOf, holds}
 
 -- What is read past the end of the rooms.
 abbrev pub blank : Account
-blank = record { id = 0; seed = []; len = 0; count = 0; password = 0 }
+blank = record { id = 0; algorithm = Algorithm.Md5; seed = []; len = 0; count = 0; password = 0 }
 
 -- What stands in a room.
 pub room-at : (l : List Account) (i : ℕ) → getD (map roomOf l) i free ≡ roomOf (getD l i blank)

@@ -4,7 +4,7 @@ use mathlib.Core.Path.{_≡_, refl, sym, ap, _∙_}
 use borrow.Author.Needs.{needs}
 use lib.ListN.{length, getD}
 use Rattle.text.specs.Put.{leaves}
-use Rattle.challenge.specs.Challenges.{challengeText, challengeWritten}
+use Rattle.challenge.specs.Challenges.{challengeText, challengeWrittenBy}
 use Rattle.accounts.specs.Rooms.{Room, roomOf, free, placeOf}
 use Rattle.table.specs.Table.{view, accountOf, turnId}
 use Rattle.table.specs.Steps.{turnChecked}
@@ -43,10 +43,10 @@ returns-2 c =
     let b = a .buf .now in
     let known = account (found .before) in (
       wrote .write-challenge .ensures .0
-          ∙ ap (λ (r : Room). challengeWritten (r .seed) (r .count - 1) (length b)) known
+          ∙ ap (λ (r : Room). challengeWrittenBy (r .algorithm) (r .seed) (r .count - 1) (length b)) known
           ∙ sym (challenge-done _ (view (a .table)) _ (sym (checked found) ∙ told .enum-told .given .1)),
       wrote .write-challenge .ensures .1
-          ∙ ap (λ (r : Room). leaves (wrote .write-challenge .result) (challengeText (r .seed) (r .count - 1)) b) known,
+          ∙ ap (λ (r : Room). leaves (wrote .write-challenge .result) (challengeText (r .algorithm) (r .seed) (r .count - 1)) b) known,
     )
 
 pub challenge-spec : {M : Type 1} → statement M

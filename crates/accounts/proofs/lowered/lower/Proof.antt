@@ -9,7 +9,7 @@ use Rattle.accounts.proofs.lowered.lower.Tie as tie
 returns : tie.Need-returns
 returns c =
     let a = c .before .args .account in
-    ap (λ (n : ℕ). record { id = a .id; seed = take (a .len) (a .seed); count = n; password = c .before .args .password }) (c .count-below .ensures)
+    ap (λ (n : ℕ). record { id = a .id; algorithm = a .algorithm; seed = take (a .len) (a .seed); count = n; password = c .before .args .password }) (c .count-below .ensures)
 
 pub lower-spec : {M : Type 1} → statement M
 lower-spec = tie.close (tie.spec (λ c κs. search needs) returns)

@@ -7,7 +7,7 @@ use native.Mathlib.Omega.{arith}
 use lib.ListN.{length}
 use lib.Seq.{length-take-le}
 use Rattle.text.specs.Put.{leaves}
-use Rattle.challenge.specs.Challenges.{challengeText, challengeWritten}
+use Rattle.challenge.specs.Challenges.{challengeText, challengeWrittenBy}
 use Rattle.line.specs.Laws.{all-taken}
 use Rattle.accounts.proofs.lowered.write_challenge.Statement.{statement}
 use Rattle.accounts.proofs.lowered.write_challenge.Tie as tie
@@ -26,8 +26,8 @@ returns c =
     let a = counted .before .before .before .before .args in
     let seed = all-taken (counted .before .seed-len .result) (a .account .len) (a .account .seed) (counted .before .seed-len .ensures .0) in
     let count = counted .count-below .ensures in (
-      wrote .write .ensures .0 ∙ ap₂ (λ (s : List ℕ) (n : ℕ). challengeWritten s n (length (a .buf .now))) seed count,
-      wrote .write .ensures .1 ∙ ap₂ (λ (s : List ℕ) (n : ℕ). leaves (wrote .write .result) (challengeText s n) (a .buf .now)) seed count,
+      wrote .write-by .ensures .0 ∙ ap₂ (λ (s : List ℕ) (n : ℕ). challengeWrittenBy (a .account .algorithm) s n (length (a .buf .now))) seed count,
+      wrote .write-by .ensures .1 ∙ ap₂ (λ (s : List ℕ) (n : ℕ). leaves (wrote .write-by .result) (challengeText (a .account .algorithm) s n) (a .buf .now)) seed count,
     )
 
 pub write-challenge-spec : {M : Type 1} → statement M

@@ -6,6 +6,7 @@ use borrow.Author.Needs.{needs}
 use lib.ListN.{length}
 use Rattle.refusal.specs.declared.Checked.{Checked}
 use Rattle.refusal.specs.Laws.{first-refused, first-good, each-good}
+use Rattle.password.specs.Algorithm.{numbered, algorithmChecked}
 use Rattle.password.specs.PhraseAndSeed.{seedChecked}
 use Rattle.password.specs.PhraseAndSeedLaws.{good-seed}
 use Rattle.accounts.specs.Rooms.{Room, roomOf, free}
@@ -14,15 +15,16 @@ use Rattle.accounts.proofs.values.propose.Statement.{statement}
 use Rattle.accounts.proofs.values.propose.Tie as tie
 
 -- Good values have a seed that can be kept.
-fits : (count : ℕ) (seed : List ℕ) (present : Room) → valuesChecked count seed present ≡ Checked.Good → length seed ≤ 16
+fits : (number count : ℕ) (seed : List ℕ) (present : Room) → valuesChecked number count seed present ≡ Checked.Good → length seed ≤ 16
 unfolding valuesChecked
-fits count seed present e = good-seed seed (each-good (countWithin count ∷ seedChecked seed ∷ seedOther seed present ∷ []) e .1 .0) .1
+fits number count seed present e =
+    good-seed seed (each-good (countWithin count ∷ algorithmChecked (numbered number) ∷ seedChecked seed ∷ seedOther seed present ∷ []) e .1 .1 .0) .1
 
 returns : tie.Need-returns
 returns c =
     let checked = c .before .before in
     let a = checked .before .before .args in
-    let room = newRoom (a .id) (a .count) (a .seed .now) (a .password .now) in
+    let room = newRoom (a .id) (a .algorithm) (a .count) (a .seed .now) (a .password .now) in
     ap (λ (r : Room). record { checked = checked .check-values .result; room = r }) (first-refused (λ _. free) _ _ room (c .enum-told .given .1))
     ∙ ap (λ (k : Checked). proposed k room) (checked .check-values .ensures)
 
@@ -44,5 +46,5 @@ propose-spec =
     (λ c κs.
     let checked = c .before .before in
     let a = checked .before .before .args in
-    fits (a .count) (a .seed .now) (roomOf (a .present)) (sym (checked .check-values .ensures) ∙ c .enum-told2 .given .1))
+    fits (a .algorithm) (a .count) (a .seed .now) (roomOf (a .present)) (sym (checked .check-values .ensures) ∙ c .enum-told2 .given .1))
     returns-2)

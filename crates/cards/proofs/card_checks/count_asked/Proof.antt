@@ -5,6 +5,7 @@ use mathlib.Core.Path.{_≡_, sym, _∙_}
 use mathlib.Core.List.{List}
 use Rattle.refusal.specs.declared.Refusal.{Refusal}
 use Rattle.refusal.specs.declared.Checked.{Checked}
+use Rattle.password.specs.declared.algorithm.Algorithm.{Algorithm}
 use Rattle.password.specs.PhraseAndSeed.{phraseChecked}
 use Rattle.challenge.specs.declared.reading.Challenge.{Challenge}
 use Rattle.challenge.specs.Challenges.{challengeOf}
@@ -23,9 +24,9 @@ module _ (phrase challenge : List ℕ) (k : ℕ) where
     unfolding countAsked cardChecked
     refused-challenge why f = rw (e, f)
 
-    counted : (n s l u : ℕ) → challengeOf challenge ≡ Challenge.Read n s l u → linesCounted k n ≡ countAsked phrase challenge k
+    counted : (algorithm : Algorithm) (n s l u : ℕ) → challengeOf challenge ≡ Challenge.Read algorithm n s l u → linesCounted k n ≡ countAsked phrase challenge k
     unfolding countAsked cardChecked
-    counted n s l u f = rw (e, f)
+    counted algorithm n s l u f = rw (e, f)
 
 good-phrase : (c : tie.After-enum-told) → phraseChecked (c .before .before .before .before .before .args .phrase .now) ≡ Checked.Good
 good-phrase c = sym (c .before .before .check-phrase .ensures) ∙ c .enum-told .given .1
@@ -34,7 +35,7 @@ returns-2 : tie.Need-returns-2
 returns-2 c =
     let told = c .before in
     c .lines-counted .ensures
-    ∙ counted _ _ _ (good-phrase (told .before .before .before .before)) _ _ _ _ (sym (told .before .before .before .read .ensures)
+    ∙ counted _ _ _ (good-phrase (told .before .before .before .before)) _ _ _ _ _ (sym (told .before .before .before .read .ensures)
     ∙ told .before .count .given .1)
 
 pub count-asked-spec : {M : Type 1} → statement M

@@ -9,10 +9,10 @@ use Rattle.cards.proofs.walk.walk.Statement.{statement}
 use Rattle.cards.proofs.walk.walk.Tie as tie
 
 abbrev Inv-loop : tie.InvT-loop
-Inv-loop p k ps₀ x₀ i₀ ps x i = (i ≤ k) × (length ps ≡ 99) × Filled p k ps x i
+Inv-loop algorithm p k ps₀ x₀ i₀ ps x i = (i ≤ k) × (length ps ≡ 99) × Filled algorithm p k ps x i
 
 abbrev μ-loop : tie.MeasureT-loop
-μ-loop p k ps₀ x₀ i₀ ps x i = i
+μ-loop algorithm p k ps₀ x₀ i₀ ps x i = i
 
 long : (c : tie.After-step Inv-loop μ-loop) → c .before .before .before .args .k ≤ length (c .before .before .loop .ps)
 long c = omega arith
@@ -23,7 +23,7 @@ walk-spec =
     (tie.spec
     Inv-loop
     μ-loop
-    (λ c. (omega arith, refl, none-filled _ _ (replicate 99 0)))
+    (λ c. (omega arith, refl, none-filled _ _ _ (replicate 99 0)))
     (λ c. omega arith)
     (λ c. omega arith)
     (λ c. omega arith)
@@ -32,7 +32,7 @@ walk-spec =
     (λ c. (
       omega arith,
       simp length-set (c .before .before .loop .inv .1),
-      one-more _ _ (c .before .before .loop .ps) _ _ _ (c .before .before .loop .inv .0) (long c)
+      one-more _ _ _ (c .before .before .loop .ps) _ _ _ (c .before .before .loop .inv .0) (long c)
           (c .before .loop-test .taken) (c .step .ensures) (c .before .before .loop .inv .2),
     ))
     (λ c phrase seed low e i h. c .before .loop .inv .2 phrase seed low e .1 i (omega arith) h))

@@ -9,9 +9,12 @@ use native.Mathlib.Omega.{arith}
 use lib.ListN.{length, take}
 use Rattle.text.specs.Digits.{numberOf}
 use Rattle.text.specs.Tests.{same}
+use Rattle.password.specs.declared.algorithm.Algorithm.{Algorithm}
+use Rattle.password.specs.declared.algorithm.Named.{Named}
+use Rattle.password.specs.Algorithm.{named}
 use Rattle.text.specs.Counts.{isCount, countedOf}
 use Rattle.text.specs.CountLaws.{is-read, is-unread}
-use Rattle.challenge.specs.Challenges.{opening, algorithm, tokenAt, nextAt, countAt, seedAt}
+use Rattle.challenge.specs.Challenges.{opening, tokenAt, nextAt, countAt, seedAt}
 use Rattle.challenge.specs.Inside.{seedFrom}
 use Rattle.challenge.specs.Laws.{opened-long, next-within, stop1, stop2, stop3, from-seed}
 use Rattle.challenge.proofs.reading.read.Statement.{statement}
@@ -27,17 +30,25 @@ opened c = sym (c .before .is-opened .ensures) ∙ not-false _ (c .if1 .left)
 
 -- ---- step 2
 
-abbrev else₁ : tie.Else2 → tie.Else1
-else₁ c = c .before .before
+abbrev else₁ : tie.After-known-told → tie.Else1
+else₁ c = c .before .before .before .before
 
-abbrev text₂ : tie.Else2 → List ℕ
+abbrev text₂ : tie.After-known-told → List ℕ
 text₂ c = text₁ (else₁ c)
 
-named : (c : tie.Else2) → same (tokenAt (text₂ c) 4) algorithm ≡ true
-named c = sym (c .before .is-named .ensures) ∙ not-false _ (c .if2 .left)
+abbrev algorithm : tie.After-known-told → Algorithm
+algorithm c = c .before .algorithm .given .0 .0
 
-long : (c : tie.Else2) → 4 ≤ length (text₂ c)
+known : (c : tie.After-known-told) → named (tokenAt (text₂ c) 4) ≡ Named.Is (algorithm c)
+known c = sym (c .before .before .before .algorithm-from .ensures) ∙ c .before .algorithm .given .1
+
+long : (c : tie.After-known-told) → 4 ≤ length (text₂ c)
 long c = opened-long (text₂ c) (opened (else₁ c))
+
+returns-2 : tie.Need-returns-2
+returns-2 c =
+    let at = c .before .before in
+    sym (stop2 (text₁ (at .before)) (opened (at .before)) (sym (at .algorithm-from .ensures) ∙ c .enum-told .given .1))
 
 -- ---- step 3
 
@@ -57,15 +68,15 @@ counted c = c .count-from .ensures ∙ ap (λ (at : ℕ). countedOf (tokenAt (te
 returns-3 : tie.Need-returns-3
 returns-3 c =
     let at = c .before .before in
-    let else2 = at .before .before in
-    sym (stop3 (text₃ at) (opened (else₁ else2)) (named else2) (is-unread _ (sym (counted at) ∙ c .enum-told .given .1)))
+    let told = at .before .before in
+    sym (stop3 (text₃ at) (opened (else₁ told)) (algorithm told) (known told) (is-unread _ (sym (counted at) ∙ c .enum-told2 .given .1)))
 
 -- ---- steps 4 and 5
 
-abbrev count : tie.After-known-told → tie.After-count-from
+abbrev count : tie.After-known-told2 → tie.After-count-from
 count c = c .before .before .before
 
-good-count : (c : tie.After-known-told) → (isCount (tokenAt (text₃ (count c)) (countAt (text₃ (count c)))) ≡ true)
+good-count : (c : tie.After-known-told2) → (isCount (tokenAt (text₃ (count c)) (countAt (text₃ (count c)))) ≡ true)
     × (numberOf 10 (tokenAt (text₃ (count c)) (countAt (text₃ (count c)))) ≡ c .before .count .given .0 .0)
 good-count c = is-read _ _ (sym (counted (count c)) ∙ c .before .count .given .1)
 
@@ -80,12 +91,12 @@ seed-within c =
 
 returns-4 : tie.Need-returns-4
 returns-4 c =
-    let told = c .before .before in
-    let else2 = count told .before .before in
-    let text = text₂ else2 in
+    let counted = c .before .before in
+    let told = count counted .before .before in
+    let text = text₂ told in
     c .seed-from .ensures
-    ∙ ap (seedFrom text (told .before .count .given .0 .0)) (at-seed (c .before))
-    ∙ sym (from-seed text (opened (else₁ else2)) (named else2) (good-count told .0) _ (good-count told .1))
+    ∙ ap (seedFrom text (algorithm told) (counted .before .count .given .0 .0)) (at-seed (c .before))
+    ∙ sym (from-seed text (opened (else₁ told)) (algorithm told) (known told) (good-count counted .0) _ (good-count counted .1))
 
 pub read-spec : {M : Type 1} → statement M
 read-spec =
@@ -94,7 +105,9 @@ read-spec =
     (λ c κs. search needs)
     (λ c. sym (stop1 _ (sym (c .before .is-opened .ensures) ∙ not-true _ (c .if1 .taken))))
     (λ c κs. opened-long (text₁ c) (opened c))
-    (λ c. sym (stop2 (text₁ (c .before .before)) (opened (c .before .before)) (sym (c .before .is-named .ensures) ∙ not-true _ (c .if2 .taken))))
+    (λ c. search needs)
+    (λ c. search needs)
+    returns-2
     (λ c κs. long c)
     (λ c κs. count-within c)
     (λ c. search needs)

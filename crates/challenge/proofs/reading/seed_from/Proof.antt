@@ -26,7 +26,7 @@ checked c = c .check-seed .ensures ∙ ap seedChecked (c .before .token .ensures
 returns : tie.Need-returns
 returns c =
     let at = c .before .before .before in
-    sym (stop4 (text (at .before)) _ (start (at .before)) _ (sym (checked at) ∙ c .before .why .given .1))
+    sym (stop4 (text (at .before)) _ _ (start (at .before)) _ (sym (checked at) ∙ c .before .why .given .1))
 
 -- past the check of the seed
 abbrev seed : tie.After-enum-told → tie.After-token
@@ -47,13 +47,13 @@ ended c =
 returns-2 : tie.Need-returns-2
 returns-2 c =
     let at = seed (c .before .before) in
-    sym (stop5 (text at) _ (start at) (good (c .before)) (sym (ended (c .before)) ∙ not-true _ (c .if1 .taken)))
+    sym (stop5 (text at) _ _ (start at) (good (c .before)) (sym (ended (c .before)) ∙ not-true _ (c .if1 .taken)))
 
 returns-3 : tie.Need-returns-3
 returns-3 c =
     let at = seed (c .before .before) in
-    ap (λ (t : List ℕ). Challenge.Read (at .before .before .args .count) (start at) (length t) (start at + length t + 1)) (at .token .ensures)
-    ∙ sym (all-good (text at) _ (start at) (good (c .before)) (sym (ended (c .before)) ∙ not-false _ (c .if1 .left)))
+    ap (λ (t : List ℕ). Challenge.Read (at .before .before .args .algorithm) (at .before .before .args .count) (start at) (length t) (start at + length t + 1)) (at .token .ensures)
+    ∙ sym (all-good (text at) _ _ (start at) (good (c .before)) (sym (ended (c .before)) ∙ not-false _ (c .if1 .left)))
 
 pub seed-from-spec : {M : Type 1} → statement M
 seed-from-spec =

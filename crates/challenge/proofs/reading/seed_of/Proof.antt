@@ -7,15 +7,16 @@ use native.Mathlib.Omega.{arith}
 use native.Mathlib.Nat.{zero-add}
 use lib.ListN.{length, take, drop}
 use Rattle.refusal.specs.declared.Refusal.{Refusal}
+use Rattle.password.specs.declared.algorithm.Algorithm.{Algorithm}
 use Rattle.challenge.specs.declared.reading.Challenge.{Challenge}
 use Rattle.challenge.specs.Challenges.{challengeOf, startOf, lengthOf, seedOf}
 use Rattle.challenge.specs.Laws.{part-within}
 use Rattle.challenge.proofs.reading.seed_of.Statement.{statement}
 use Rattle.challenge.proofs.reading.seed_of.Tie as tie
 
-part : (text : List ℕ) (n s l u o : ℕ) → challengeOf text ≡ Challenge.Read n s l u
+part : (text : List ℕ) (algorithm : Algorithm) (n s l u o : ℕ) → challengeOf text ≡ Challenge.Read algorithm n s l u
     → (take (s + l - s) (drop s text) ≡ seedOf text) × (s + o ≡ startOf (challengeOf text) + o)
-part text n s l u o e =
+part text algorithm n s l u o e =
     let back : s + l - s ≡ l = omega arith in (
       ap (λ (k : ℕ). take k (drop s text)) back ∙ sym (ap (λ (r : Challenge). take (lengthOf r) (drop (startOf r) text)) e),
       sym (ap (λ (r : Challenge). startOf r + o) e),
@@ -28,15 +29,15 @@ none text why o e = (
   sym (ap (λ (r : Challenge). startOf r + o) e ∙ zero-add o),
 )
 
-within : (c : tie.After-known-told) → c .before .start .given .0 .1 .0 + c .before .start .given .0 .1 .1 .0
+within : (c : tie.After-known-told) → c .before .start .given .0 .1 .1 .0 + c .before .start .given .0 .1 .1 .1 .0
     ≤ length (c .before .before .before .before .before .args .text .now)
-within c = part-within _ _ _ _ (c .before .before .before .before .before .args .text .now)
+within c = part-within _ _ _ _ _ (c .before .before .before .before .before .args .text .now)
     (sym (c .before .before .before .read .ensures) ∙ c .before .start .given .1)
 
 returns : tie.Need-returns
 returns c =
     let at = c .before .before .before .before in
-    let e = part (at .before .before .args .text .now) _ _ _ _ _ (sym (at .read .ensures) ∙ c .before .before .start .given .1) in
+    let e = part (at .before .before .args .text .now) _ _ _ _ _ _ (sym (at .read .ensures) ∙ c .before .before .start .given .1) in
     (e .0, refl, e .1)
 
 returns-2 : tie.Need-returns-2

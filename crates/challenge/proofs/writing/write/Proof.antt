@@ -1,69 +1,36 @@
--- `write` meets its promise: the checks in their order, then the text.
-use borrow.Author.Needs.{needs}
-use borrow.Author.Tests.{lt-ltb, le-ltb, lt-leb, le-leb}
-use Prim.Native.Nat.{ℕ, _+_, _≤_, _<_}
-use mathlib.Core.Path.{_≡_, refl, sym, _∙_, ap}
+-- `write` meets its promise: 21, and behind it the writer by the algorithm.
+use mathlib.Core.Path.{refl, sym, ap, _∙_}
+use Prim.Native.Nat.{ℕ}
 use mathlib.Core.List.{List}
-use native.Mathlib.Omega.{arith}
+use borrow.Author.Needs.{needs}
 use lib.ListN.{length}
-use Rattle.refusal.specs.declared.Refusal.{Refusal}
-use Rattle.refusal.specs.declared.Checked.{Checked}
 use Rattle.refusal.specs.declared.Written.{Written}
-use Rattle.text.specs.Put.{writtenOf}
-use Rattle.password.specs.PhraseAndSeed.{seedChecked}
-use Rattle.text.specs.Counts.{widthOf}
-use Rattle.challenge.specs.Challenges.{challengeText, challengeWritten}
-use Rattle.text.specs.CountLaws.{width-few}
-use Rattle.challenge.specs.Laws.{length-challenge}
+use Rattle.text.specs.Put.{leaves}
+use Rattle.password.specs.declared.algorithm.Algorithm.{Algorithm}
+use Rattle.password.specs.declared.algorithm.Named.{Named}
+use Rattle.password.specs.Algorithm.{algorithmIn}
+use Rattle.password.specs.AlgorithmLaws.{unknown-refused, known-done}
+use Rattle.challenge.specs.Challenges.{challengeText, challengeWrittenBy, challengeWritten}
 use Rattle.challenge.proofs.writing.write.Statement.{statement}
 use Rattle.challenge.proofs.writing.write.Tie as tie
 
-module _ (seed : List ℕ) (count room : ℕ) where
-  refused-seed : (why : Refusal) → seedChecked seed ≡ Checked.Refused why → Written.Refused why ≡ challengeWritten seed count room
-  unfolding challengeWritten
-  refused-seed why e = rw e
+returns : tie.Need-returns
+unfolding challengeWritten
+returns c =
+    let a = c .before .before .before .before .before .args in
+    let by : Algorithm → Written = λ algorithm. challengeWrittenBy algorithm (a .seed .now) (a .count) (length (a .buf .now)) in
+    (unknown-refused Written.Refused by _ (sym (c .before .before .numbered .ensures) ∙ c .enum-told .given .1), refl)
 
-  module _ (e : seedChecked seed ≡ Checked.Good) where
-    refused-count : 9999 < count → Written.Refused Refusal.CountHigh ≡ challengeWritten seed count room
-    unfolding challengeWritten
-    refused-count h = rw (e, lt-ltb 9999 count h)
-
-    then-written : count ≤ 9999 → challengeWritten seed count room ≡ writtenOf room (challengeText seed count)
-    unfolding challengeWritten
-    then-written h = rw (e, le-ltb 9999 count h)
-
-    short : count ≤ 9999 → room < widthOf count + length seed + 10 → Written.Refused Refusal.BufferShort ≡ challengeWritten seed count room
-    short h g = sym (then-written h ∙ rw (lt-leb (length (challengeText seed count)) room (rw length-challenge g)))
-
-    fits : (n : ℕ) → count ≤ 9999 → widthOf count + length seed + 10 ≤ room
-        → n ≡ length (challengeText seed count) → Written.Wrote n ≡ challengeWritten seed count room
-    fits n h g p = ap Written.Wrote p ∙ sym (then-written h ∙ rw (le-leb (length (challengeText seed count)) room (rw length-challenge g)))
-
-seed-good : (c : tie.After-enum-told) → seedChecked (c .before .before .before .before .before .args .seed .now) ≡ Checked.Good
-seed-good c = sym (c .before .before .check-seed .ensures) ∙ c .enum-told .given .1
-
-width-small : (c : tie.After-width) → c .width .result ≤ 4
-width-small c = omega (arith, c .width .ensures, width-few (c .before .before .before .before .before .before .before .args .count) .1)
-
-returns-3 : tie.Need-returns-3
-returns-3 c =
-    let else1 = c .before .before in
-    let a = else1 .before .before .before .before .before .before .args in (
-      short (a .seed .now) (a .count) (length (a .buf .now)) (seed-good (else1 .before))
-          (else1 .if1 .left) (omega (arith, c .before .width .ensures, c .if2 .taken)),
-      refl,
-    )
-
-returns-4 : tie.Need-returns-4
-returns-4 c =
-    let else2 = c .before .before .before .before in
-    let else1 = else2 .before .before in
-    let a = else1 .before .before .before .before .before .before .args in (
-      fits (a .seed .now) (a .count) (length (a .buf .now)) (seed-good (else1 .before)) _
-          (else1 .if1 .left) (omega (arith, else2 .before .width .ensures, else2 .if2 .left))
-          (c .before .before .put-challenge .ensures .0),
-      c .before .before .put-challenge .ensures .1,
-    )
+returns-2 : tie.Need-returns-2
+unfolding challengeWritten
+returns-2 c =
+    let call = c .before .before in
+    let told = call .before .before .before in
+    let a = told .before .before .before .before .before .args in
+    let by : Algorithm → Written = λ algorithm. challengeWrittenBy algorithm (a .seed .now) (a .count) (length (a .buf .now)) in
+    let known = sym (told .before .before .numbered .ensures) ∙ told .known .given .1 in
+    let left : Named → List ℕ = λ n. leaves (call .write-by .result) (challengeText (algorithmIn n) (a .seed .now) (a .count)) (a .buf .now) in
+    (call .write-by .ensures .0 ∙ known-done Written.Refused by _ _ known, call .write-by .ensures .1 ∙ ap left (sym known))
 
 pub write-spec : {M : Type 1} → statement M
 write-spec =
@@ -71,13 +38,8 @@ write-spec =
     (tie.spec
     (λ c κs. search needs)
     (λ c. search needs)
-    (λ c. (refused-seed _ _ _ _ (sym (c .before .before .before .check-seed .ensures) ∙ c .before .why .given .1), refl))
     (λ c. search needs)
-    (λ c. (refused-count _ _ _ (seed-good (c .before)) (c .if1 .taken), refl))
-    (λ c κs. search needs)
-    (λ c. omega (arith, width-small c))
-    (λ c. omega (arith, width-small c))
-    returns-3
+    returns
     (λ c κs. search needs)
     (λ c. search needs)
-    returns-4)
+    returns-2)

@@ -8,6 +8,7 @@ use lib.Dec.{eqb, ltb}
 use Rattle.refusal.specs.declared.Checked.{Checked}
 use Rattle.refusal.specs.Checks.{unless, inOrder}
 use Rattle.refusal.specs.Laws.{first-good, each-good, in-parts}
+use Rattle.password.specs.Algorithm.{numbered, algorithmChecked}
 use Rattle.password.specs.PhraseAndSeed.{seedChecked}
 use Rattle.accounts.specs.Rooms.{free, holds}
 use Rattle.accounts.specs.Accounts.{Proposal, newRoom, countWithin, valuesChecked}
@@ -21,19 +22,19 @@ use Rattle.login.proofs.enrolling.enrol.Statement.{statement}
 use Rattle.login.proofs.enrolling.enrol.Tie as tie
 
 -- What is found with the values beside a free room is what is written.
-enrol-found : (id count : ℕ) (seed : List ℕ) (s : State) (place room : ℕ) → ltb place 32 ≡ holds id (s .rooms) → ltb room 32 ≡ holds 0 (s .rooms)
-    → inOrder (enrolFound id (valuesChecked count seed free) place room) ≡ enrolChecked id count seed s
+enrol-found : (id number count : ℕ) (seed : List ℕ) (s : State) (place room : ℕ) → ltb place 32 ≡ holds id (s .rooms) → ltb room 32 ≡ holds 0 (s .rooms)
+    → inOrder (enrolFound id (valuesChecked number count seed free) place room) ≡ enrolChecked id number count seed s
 unfolding enrolChecked
-enrol-found id count seed s place room held left =
-    (λ i. inOrder (enrolChecks (not (eqb id 0)) (values-enrolled count seed i) (not (not (eqb id 0) && held i)) (left i)))
-    ∙ ap (unless Checked.Refused (idGiven id)) (in-parts (countWithin count ∷ seedChecked seed ∷ []) (idNew id s ∷ roomLeft s ∷ []))
+enrol-found id number count seed s place room held left =
+    (λ i. inOrder (enrolChecks (not (eqb id 0)) (values-enrolled number count seed i) (not (not (eqb id 0) && held i)) (left i)))
+    ∙ ap (unless Checked.Refused (idGiven id)) (in-parts (countWithin count ∷ algorithmChecked (numbered number) ∷ seedChecked seed ∷ []) (idNew id s ∷ roomLeft s ∷ []))
 
 abbrev from : tie.After-check-enrol → tie.Start
 from c = c .before .before .before .before .before
 
 -- What was checked, of the values that were proposed.
 found : (c : tie.After-check-enrol) → c .check-enrol .result
-    ≡ inOrder (enrolFound (from c .args .id) (valuesChecked (from c .args .count) (from c .args .seed .now) free)
+    ≡ inOrder (enrolFound (from c .args .id) (valuesChecked (from c .args .algorithm) (from c .args .count) (from c .args .seed .now) free)
     (c .before .before .before .place-of .result) (c .before .before .place-of2 .result))
 found c =
     c .check-enrol .ensures
@@ -41,11 +42,11 @@ found c =
     (c .before .before .place-of2 .result))) (c .before .propose .ensures)
 
 checked : (c : tie.After-check-enrol) → c .check-enrol .result
-    ≡ enrolChecked (from c .args .id) (from c .args .count) (from c .args .seed .now) (view (from c .args .table))
+    ≡ enrolChecked (from c .args .id) (from c .args .algorithm) (from c .args .count) (from c .args .seed .now) (view (from c .args .table))
 checked c =
     let a = from c .args in
     found c
-    ∙ enrol-found (a .id) (a .count) (a .seed .now) (view (a .table)) (c .before .before .before .place-of .result) (c .before .before .place-of2 .result)
+    ∙ enrol-found (a .id) (a .algorithm) (a .count) (a .seed .now) (view (a .table)) (c .before .before .before .place-of .result) (c .before .before .place-of2 .result)
     (c .before .before .before .place-of .ensures .1) (c .before .before .place-of2 .ensures .1)
 
 returns : tie.Need-returns
@@ -54,7 +55,7 @@ returns c =
     let a = from asked .args in
     let s = view (a .table) in
     ap (λ (k : Checked). record { answer = k; state = s }) (c .enum-told .given .1)
-    ∙ sym (enrol-refused (a .id) (a .count) (a .seed .now) s (a .password .now) _ (sym (checked asked) ∙ c .enum-told .given .1))
+    ∙ sym (enrol-refused (a .id) (a .algorithm) (a .count) (a .seed .now) s (a .password .now) _ (sym (checked asked) ∙ c .enum-told .given .1))
 
 returns-2 : tie.Need-returns-2
 returns-2 c =
@@ -62,15 +63,15 @@ returns-2 c =
     let asked = told .before .before in
     let a = from asked .args in
     let s = view (a .table) in
-    let new = newRoom (a .id) (a .count) (a .seed .now) (a .password .now) in
+    let new = newRoom (a .id) (a .algorithm) (a .count) (a .seed .now) (a .password .now) in
     let good = told .enum-told2 .given .1 in
-    let values = valuesChecked (a .count) (a .seed .now) free in
+    let values = valuesChecked (a .algorithm) (a .count) (a .seed .now) free in
     let each = each-good (enrolFound (a .id) values (asked .before .before .before .place-of .result) (asked .before .before .place-of2 .result))
     (sym (found asked) ∙ good) in
     let room : _ ≡ new = ap (λ (p : Proposal). p .room) (asked .before .propose .ensures) ∙ sym (first-good (λ _. free) values new (each .1 .0)) in
     let after = c .put .ensures ∙ (λ i. withRoom (asked .before .before .place-of2 .ensures .0 i) (room i) s) in
     (λ i. record { answer = good i; state = after i })
-    ∙ sym (enrol-done (a .id) (a .count) (a .seed .now) s (a .password .now) (sym (checked asked) ∙ good))
+    ∙ sym (enrol-done (a .id) (a .algorithm) (a .count) (a .seed .now) s (a .password .now) (sym (checked asked) ∙ good))
 
 pub enrol-spec : {M : Type 1} → statement M
 enrol-spec =

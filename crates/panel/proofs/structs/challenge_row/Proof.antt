@@ -1,4 +1,5 @@
 -- `challenge_row` meets its promise, in each of the answer's two cases.
+use Prim.Native.Nat.{ℕ}
 use mathlib.Core.Path.{sym, ap, _∙_}
 use borrow.Author.Needs.{needs}
 use Rattle.refusal.specs.declared.Listing.{Listing}
@@ -7,16 +8,21 @@ use Rattle.panel.specs.Answers.{challengeRow}
 use Rattle.panel.proofs.structs.challenge_row.Statement.{statement}
 use Rattle.panel.proofs.structs.challenge_row.Tie as tie
 
+-- The row of what was read.
+abbrev readRow : ℕ → ℕ → ℕ → ℕ → ℕ → LiftChallenge
+readRow count start len used number = record { «seed_at» = start; «seed_len» = len; used = used; count = count; algorithm = number; refusal = 0 }
+
 -- The row of a refusal's listing.
 abbrev refusedRow : Listing → LiftChallenge
-refusedRow l = record { «seed_at» = 0; «seed_len» = 0; used = 0; count = 0; refusal = l .0 }
+refusedRow l = record { «seed_at» = 0; «seed_len» = 0; used = 0; count = 0; algorithm = 0; refusal = l .0 }
 
 pub challenge-row-spec : {M : Type 1} → statement M
 challenge-row-spec =
     tie.close
     (tie.spec
     (λ c. search needs)
+    (λ c κs. search needs)
     (λ c. search needs)
     (λ c κs. search needs)
-    (λ c. ap challengeRow (sym (c .before .challenge .given .1)))
+    (λ c. ap (readRow _ _ _ _) (c .number-of .ensures) ∙ ap challengeRow (sym (c .before .before .challenge .given .1)))
     (λ c. ap refusedRow (c .listing-of .ensures) ∙ ap challengeRow (sym (c .before .before .challenge2 .given .1))))

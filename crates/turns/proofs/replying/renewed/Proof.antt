@@ -15,7 +15,7 @@ from c = c .before .before .before .before .before
 
 -- What was checked: the turn, and the values that were proposed.
 checked : (c : tie.After-check-renew) → c .check-renew .result
-    ≡ spec.renewChecked (from c .args .port) (valuesChecked (from c .args .count) (from c .args .seed .now) (roomOf (from c .args .turn .account)))
+    ≡ spec.renewChecked (from c .args .port) (valuesChecked (from c .args .algorithm) (from c .args .count) (from c .args .seed .now) (roomOf (from c .args .turn .account)))
     (seen (from c .args .turn))
 checked c = c .check-renew .ensures
     ∙ ap (λ (p : Proposal). spec.renewChecked (from c .args .port) (p .checked) (seen (from c .args .turn))) (c .before .propose .ensures)
@@ -26,7 +26,7 @@ returns c =
     let found = c .before .before .before in
     let a = from found .args in
     let t = seen (a .turn) in
-    let next = newRoom (a .turn .account .id) (a .count) (a .seed .now) (a .password .now) in
+    let next = newRoom (a .turn .account .id) (a .algorithm) (a .count) (a .seed .now) (a .password .now) in
     first-refused (refused t) _ _ (spec.renewRead (a .port) (a .text .now) next t) (sym (checked found) ∙ c .before .why .given .1)
 
 returns-2 : tie.Need-returns-2
@@ -36,10 +36,10 @@ returns-2 c =
     let found = told .before .before in
     let a = from found .args in
     let t = seen (a .turn) in
-    let next = newRoom (a .turn .account .id) (a .count) (a .seed .now) (a .password .now) in
+    let next = newRoom (a .turn .account .id) (a .algorithm) (a .count) (a .seed .now) (a .password .now) in
     let good = sym (checked found) ∙ told .enum-told .given .1 in
     let room = ap (λ (p : Proposal). p .room) (found .before .propose .ensures)
-    ∙ sym (first-good (λ _. free) (valuesChecked (a .count) (a .seed .now) (t .account)) next
+    ∙ sym (first-good (λ _. free) (valuesChecked (a .algorithm) (a .count) (a .seed .now) (t .account)) next
     (both-good (frontChecked (a .port) (t .line) (t .account)) _ good .1)) in
     c .renew-read .ensures
     ∙ ap (λ (r : Room). spec.renewRead (a .port) (a .text .now) r t) room

@@ -5,8 +5,8 @@ use mathlib.Core.Path.{_≡_, refl, sym, _∙_, ap}
 use mathlib.Core.Bool.{Bool, true, false}
 use mathlib.Core.List.{List}
 use Rattle.text.specs.Tests.{same, same-self, same-equal}
-use Rattle.challenge.proofs.reading.same.Statement.{statement}
-use Rattle.challenge.proofs.reading.same.Tie as tie
+use Rattle.challenge.proofs.names.same.Statement.{statement}
+use Rattle.challenge.proofs.names.same.Tie as tie
 
 -- an answer that is true exactly if the texts are equal
 decides : (a b : List ℕ) (r : Bool) → (r ≡ true → a ≡ b) × (a ≡ b → r ≡ true) → r ≡ same a b

@@ -1,0 +1,39 @@
+-- `in_order` meets its promise: the first that is refused, or the last.
+use mathlib.Core.Path.{_≡_, refl, _∙_}
+use mathlib.Core.List.{[], _∷_}
+use borrow.Author.Needs.{needs}
+use Rattle.refusal.specs.declared.Checked.{Checked}
+use Rattle.refusal.specs.Checks.{inOrder}
+use Rattle.refusal.specs.Laws.{first-good}
+use Rattle.accounts.proofs.values.in_order.Statement.{statement}
+use Rattle.accounts.proofs.values.in_order.Tie as tie
+
+-- One check in order is that check.
+alone : (check : Checked) → check ≡ inOrder (check ∷ [])
+alone Checked.Good = refl
+alone (Checked.Refused why) = refl
+
+returns-4 : tie.Need-returns-4
+returns-4 c =
+    let second = c .before .before in
+    let first = second .before .before in
+    let a = first .before .before .args in
+    alone (a .last)
+    ∙ first-good Checked.Refused (a .third) _ (c .enum-told6 .given .1)
+    ∙ first-good Checked.Refused (a .second) _ (second .enum-told4 .given .1)
+    ∙ first-good Checked.Refused (a .first) _ (first .enum-told2 .given .1)
+
+pub in-order-spec : {M : Type 1} → statement M
+in-order-spec =
+    tie.close
+    (tie.spec
+    (λ c. search needs)
+    (λ c. search needs)
+    (λ c. search needs)
+    (λ c. search needs)
+    (λ c. search needs)
+    (λ c. search needs)
+    (λ c. search needs)
+    (λ c. search needs)
+    (λ c. search needs)
+    returns-4)

@@ -1,0 +1,66 @@
+// The names of the algorithms, read and written. Document 02, R-1.
+ghost use mathlib.Core.Path.{_≡_};
+ghost use mathlib.Core.List.{[], _∷_, _++_};
+ghost use Prim.Native.Nat.{_+_, _≤_};
+ghost use lib.ListN.{length};
+ghost use Rattle.text.specs.Put.{Put};
+ghost use Rattle.text.specs.Tests.{same as sameText};
+ghost use Rattle.password.specs.Algorithm.{algorithmName, named};
+use password::algorithm::Algorithm;
+use password::algorithm::Named;
+use text::put::copy;
+
+const MD5: [u8; 3] = [b'm', b'd', b'5'];
+
+const SHA1: [u8; 4] = [b's', b'h', b'a', b'1'];
+
+// Whether two texts are the same.
+pub fn same(a: &[u8], b: &[u8]) -> bool
+    ensures { λ r. ⌜ r ≡ sameText (now (a .entry)) (now (b .entry)) ⌝ }
+{
+    check::same(a, b)
+}
+
+// The algorithm with that name, in lower case and whole.
+pub fn read_name(name: &[u8]) -> Named
+    ensures { λ r. ⌜ r ≡ named (now (name .entry)) ⌝ }
+{
+    if same(name, &MD5) {
+        return Named::Is(Algorithm::Md5);
+    }
+    if same(name, &SHA1) {
+        return Named::Is(Algorithm::Sha1);
+    }
+    Named::Unknown
+}
+
+// How many bytes a name has.
+pub fn name_length(algorithm: Algorithm) -> usize
+    ensures { λ r. ⌜ (r ≡ length (algorithmName algorithm)) × (r ≤ 4) ⌝ }
+{
+    match algorithm {
+        Algorithm::Md5 => 3,
+        Algorithm::Sha1 => 4,
+    }
+}
+
+// A text and a space after it.
+fn put_spaced(buf: &mut [u8], t: &[u8]) -> usize
+    requires { ⌜ length (now t) + 1 ≤ length (now buf) ⌝ }
+    ensures { λ r. ⌜ Put (now (t .entry) ++ 32 ∷ []) (now (buf .entry)) (now (buf .exit)) r ⌝ }
+{
+    let a = copy(buf, t);
+    buf[a] = b' ';
+    a + 1
+}
+
+// An algorithm's name and a space after it.
+pub fn put_name(buf: &mut [u8], algorithm: Algorithm) -> usize
+    requires { ⌜ length (algorithmName algorithm) + 1 ≤ length (now buf) ⌝ }
+    ensures { λ r. ⌜ Put (algorithmName algorithm ++ 32 ∷ []) (now (buf .entry)) (now (buf .exit)) r ⌝ }
+{
+    match algorithm {
+        Algorithm::Md5 => put_spaced(buf, &MD5),
+        Algorithm::Sha1 => put_spaced(buf, &SHA1),
+    }
+}

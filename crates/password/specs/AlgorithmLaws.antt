@@ -1,0 +1,28 @@
+-- An algorithm by its number and by its name.
+use mathlib.Core.Path.{_≡_, refl, sym, ap}
+use Rattle.refusal.specs.declared.Refusal.{Refusal}
+use Rattle.refusal.specs.Checks.{unless}
+use Rattle.text.specs.Quoted.{codes}
+use Rattle.text.specs.Tests.{same}
+use Rattle.password.specs.declared.algorithm.Algorithm.{Algorithm}
+use Rattle.password.specs.declared.algorithm.Named.{Named}
+use Rattle.password.specs.Algorithm.{algorithmNumber, algorithmName, numbered, named, algorithmChecked, algorithmIn}
+
+pub number-numbered : (algorithm : Algorithm) → numbered (algorithmNumber algorithm) ≡ Named.Is algorithm
+number-numbered Algorithm.Md5 = refl
+number-numbered Algorithm.Sha1 = refl
+
+pub name-named : (algorithm : Algorithm) → named (algorithmName algorithm) ≡ Named.Is algorithm
+unfolding algorithmName codes same
+name-named Algorithm.Md5 = refl
+name-named Algorithm.Sha1 = refl
+
+-- 21 where there is no algorithm; otherwise what is done by it
+module _ {A : Type 0} (refused : Refusal → A) (by : Algorithm → A) where
+  pub unknown-refused : (found : Named) → found ≡ Named.Unknown
+      → refused Refusal.AlgorithmUnknown ≡ unless refused (algorithmChecked found) (by (algorithmIn found))
+  unknown-refused found e = ap (λ (n : Named). unless refused (algorithmChecked n) (by (algorithmIn n))) (sym e)
+
+  pub known-done : (found : Named) (algorithm : Algorithm) → found ≡ Named.Is algorithm
+      → by algorithm ≡ unless refused (algorithmChecked found) (by (algorithmIn found))
+  known-done found algorithm e = ap (λ (n : Named). unless refused (algorithmChecked n) (by (algorithmIn n))) (sym e)
