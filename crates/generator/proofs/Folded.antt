@@ -5,7 +5,8 @@ use mathlib.Core.List.{_++_}
 use lib.Bits.{bitXor, xor-shr, xor-mod}
 use Rattle.digests.specs.Lists.{upTo}
 use Rattle.digests.specs.declared.State.{State}
-use Rattle.digests.specs.Md5.{bytes4}
+use Rattle.digests.specs.declared.Order.{Order}
+use Rattle.digests.specs.Words.{bytes4}
 use Rattle.password.specs.Password.{fold, numberOf}
 use Rattle.password.specs.EightBytesLaws.{number-eight}
 use Rattle.generator.specs.Inside.{high4}
@@ -22,7 +23,7 @@ four-xor : (x y : ℕ)
 four-xor x y = rw (← xor-mod x y 8, byte-xor x y 8, byte-xor x y 16, byte-xor x y 24)
 
 pub fold-registers : (a b c d : ℕ)
-    → numberOf (fold (bytes4 a ++ bytes4 b ++ bytes4 c ++ bytes4 d))
+    → numberOf (fold (bytes4 Order.Little a ++ bytes4 Order.Little b ++ bytes4 Order.Little c ++ bytes4 Order.Little d))
     ≡ high4 (bitXor a c) * 4294967296 + high4 (bitXor b d)
 unfolding fold upTo
 fold-registers a b c d =
@@ -31,4 +32,4 @@ fold-registers a b c d =
 
 -- The fold of the digest that the registers hold.
 abbrev pub foldedOf : State → ℕ
-foldedOf q = numberOf (fold (bytes4 (q .a) ++ bytes4 (q .b) ++ bytes4 (q .c) ++ bytes4 (q .d)))
+foldedOf q = numberOf (fold (bytes4 Order.Little (q .a) ++ bytes4 Order.Little (q .b) ++ bytes4 Order.Little (q .c) ++ bytes4 Order.Little (q .d)))

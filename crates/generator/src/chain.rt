@@ -1,7 +1,8 @@
 // One step of the chain.
 ghost use mathlib.Core.Path.{_≡_};
 ghost use Prim.Native.Nat.{_<_};
-ghost use Rattle.digests.specs.Padding.{word, little};
+ghost use Rattle.digests.specs.declared.Order.{Order};
+ghost use Rattle.digests.specs.Words.{word};
 ghost use Rattle.password.specs.Password as spec;
 use crate::fold::folded;
 use md5::compress::compress_eight;
@@ -10,7 +11,7 @@ use password::algorithm::Algorithm;
 // Four bytes as a word of the block, low-order byte first.
 fn low_word(b0: u64, b1: u64, b2: u64, b3: u64) -> u32
     requires { ⌜ (b0 < 256) × (b1 < 256) × (b2 < 256) × (b3 < 256) ⌝ }
-    ensures { λ r. ⌜ r ≡ word little b0 b1 b2 b3 ⌝ }
+    ensures { λ r. ⌜ r ≡ word Order.Little b0 b1 b2 b3 ⌝ }
 {
     (b0 + b1 * 256 + b2 * 65536 + b3 * 16777216) as u32
 }

@@ -4,7 +4,7 @@ ghost use Rattle.cards.specs.Cards.{cardOf, cardWritten};
 ghost use Rattle.challenge.specs.Challenges.{challengeOf, challengeNumbered, challengeWritten};
 ghost use Rattle.digests.specs.Md5.{md5};
 ghost use Rattle.hex.specs.Hex.{hexOf};
-ghost use Rattle.md5.specs.Digest.{digestOf};
+ghost use Rattle.block.specs.Digest.{digestOf};
 ghost use Rattle.panel.specs.Answers.{challengeRow, readingRow, Reported};
 ghost use Rattle.password.specs.Password.{generated, numberOf, bytesOf};
 ghost use Rattle.reply.specs.Reply.{readingOf};
@@ -26,7 +26,7 @@ mod structs;
 
 #[no_mangle]
 pub extern "C" fn lift_md5(text: &[u8], digest: &mut [u8]) -> LiftWritten
-    ensures { λ r. ⌜ Reported (digestOf (now (text .entry)) (length (now (digest .entry))))
+    ensures { λ r. ⌜ Reported (digestOf md5 (now (text .entry)) (length (now (digest .entry))))
         (md5 (now (text .entry))) (now (digest .entry)) (now (digest .exit)) r ⌝ }
 {
     written_row(md5::digest::digest(text, digest))

@@ -5,7 +5,9 @@ use native.Mathlib.Nat.{mod-lt}
 use native.Mathlib.Omega.{arith}
 use lib.Bits.{bitXor, xor-lt}
 use Rattle.digests.specs.Lists.{upTo}
-use Rattle.digests.specs.Md5.{registers, bytes4, md5}
+use Rattle.digests.specs.declared.Order.{Order}
+use Rattle.digests.specs.Words.{bytes4}
+use Rattle.digests.specs.Md5.{registers, md5}
 use Rattle.text.specs.Kinds.{lowerOf}
 use Rattle.password.specs.declared.algorithm.Algorithm.{Algorithm}
 use Rattle.password.specs.Password.{fold, numberAfter, numberOf, bytesOf, hash, password}
@@ -19,7 +21,7 @@ eight-small : (b₀ b₁ b₂ b₃ b₄ b₅ b₆ b₇ : ℕ)
 unfolding numberAfter
 eight-small b₀ b₁ b₂ b₃ b₄ b₅ b₆ b₇ h₀ h₁ h₂ h₃ h₄ h₅ h₆ h₇ = omega arith
 
-fold-bound : (a b c d : ℕ) → numberOf (fold (bytes4 a ++ bytes4 b ++ bytes4 c ++ bytes4 d)) < 2 ^ 64
+fold-bound : (a b c d : ℕ) → numberOf (fold (bytes4 Order.Little a ++ bytes4 Order.Little b ++ bytes4 Order.Little c ++ bytes4 Order.Little d)) < 2 ^ 64
 unfolding fold upTo
 fold-bound a b c d =
     eight-small _ _ _ _ _ _ _ _ (byte-xor a c) (byte-xor (a / 256) (c / 256)) (byte-xor (a / 65536) (c / 65536)) (byte-xor (a / 16777216) (c / 16777216))

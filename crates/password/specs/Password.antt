@@ -11,12 +11,18 @@ use Rattle.refusal.specs.declared.Reading.{Reading}
 use Rattle.refusal.specs.Checks.{unless}
 use Rattle.text.specs.Kinds.{lowerOf}
 use Rattle.digests.specs.Md5 as Md5
+use Rattle.digests.specs.Sha1 as Sha1
 use Rattle.password.specs.PhraseAndSeed.{phraseChecked, seedChecked}
 use Rattle.password.specs.Algorithm.{numbered, algorithmChecked, algorithmIn}
 use Rattle.password.specs.declared.algorithm.Algorithm.{Algorithm}
 -- "The 8 bytes are one 64-bit number, first byte most significant"
 unfoldable pub use Rattle.password.specs.EightBytes.{numberAfter}
 pub use Rattle.password.specs.EightBytes.{numberOf, bytesOf}
+
+-- The digest of an algorithm.
+abbrev pub digestBy : Algorithm → List ℕ → List ℕ
+digestBy Algorithm.Md5 = Md5.md5
+digestBy Algorithm.Sha1 = Sha1.sha1
 
 -- "byte i of the 16-byte digest is xored with byte i+8, giving 8 bytes"
 unfoldable pub fold : List ℕ → List ℕ
