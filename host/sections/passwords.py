@@ -33,6 +33,15 @@ def appendix_c(driver):
     return f"{counts}: the generator gives the RFC's hex, the card its hex and words"
 
 
+def stored_rows(driver):
+    """What rt ci holds the program `vectors` to is the RFC's rows, in their order, with the hex in lower case."""
+    known = [name.decode() for name in model.NAMES.values()]
+    rows = [row.split("\t") for row in (ROOT / "host" / "vectors.tsv").read_text().splitlines()]
+    lines = ["\t".join([*row[:4], row[4].lower(), row[5]]) for row in rows if row[0] in known]
+    harness.hold_to(lines, (ROOT / "crates" / "vectors" / "stdout").read_text().splitlines(), lines)
+    return f"{len(lines)} rows for {' and '.join(known)}"
+
+
 def digest_lengths(rng):
     """0 to 300, around each multiple of 64 (the padding turns at 55 and 56), and past 4,096."""
     lengths = list(range(301))
