@@ -98,8 +98,9 @@ def filled(line):
 INPUTS = [
     b"", b"\n", b"\n\n\n", b"#", b"# new\n", b"new", b"new\n", b"\nnew", b"new\n\n", b"new\r\n", b"\r\n", b" ", b" \n",
     b"\0", b"\0\n", b"\xff\n", b"dump\ndump", b"tick 60\ndump\n", b"leave 0\nmd5 -\n", b"new\0\n", b"md5 61\0\n",
-    b"\n" * MOST, b"#" * MOST, b"x" * MOST, filled(b"new\n"), filled(b"md5 " + b"61" * 4096 + b"\n"),
-    filled(b"sha1 " + b"61" * 4096 + b"\n"), filled(b"sha1 " + b"61" * 4097 + b"\n"), filled(b"md5 " + b"61" * 4097 + b"\n"), b"md5 " + b"61" * ((MOST - 4) // 2), b"read " + b"20" * 500000 + b"\n",
+    b"\n" * MOST, b"#" * MOST, b"x" * MOST, filled(b"new\n"),
+    *(filled(name + b" " + b"61" * length + b"\n") for name in model.NAMES.values() for length in (4096, 4097)),
+    b"md5 " + b"61" * ((MOST - 4) // 2), b"read " + b"20" * 500000 + b"\n",
     b"reply 0 " + b"20" * 500000 + b"\n", b"gen 2 " + b"61" * 200000 + b" " + b"61" * 300000 + b" 1\n",
     b"prog " + b"0a" * 257 + b"\n", b"prog " + b"0a" * 500000 + b"\n", b"#\n" * (MOST // 2), b"new\n" * 5000,
 ]
