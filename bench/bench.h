@@ -7,9 +7,6 @@
 
 #define LENGTH_OF(array) (sizeof(array) / sizeof *(array))
 
-/* The algorithms, as lift.h numbers them. */
-enum { MD5 = 1, SHA1 = 2 };
-
 /* Nanoseconds of this thread alone: others on the machine don't count. */
 double now(void);
 

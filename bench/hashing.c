@@ -26,13 +26,13 @@ static uint8_t text[TEXT];
 static uint64_t proved_md5_password(const uint8_t *its_phrase, size_t phrase_len,
                                     const uint8_t *its_seed, size_t seed_len, uint32_t count)
 {
-    return lift_password(MD5, its_phrase, phrase_len, its_seed, seed_len, count).password;
+    return lift_password(LIFT_MD5, its_phrase, phrase_len, its_seed, seed_len, count).password;
 }
 
 static uint64_t proved_sha1_password(const uint8_t *its_phrase, size_t phrase_len,
                                      const uint8_t *its_seed, size_t seed_len, uint32_t count)
 {
-    return lift_password(SHA1, its_phrase, phrase_len, its_seed, seed_len, count).password;
+    return lift_password(LIFT_SHA1, its_phrase, phrase_len, its_seed, seed_len, count).password;
 }
 
 static void proved_md5(const uint8_t *bytes, size_t len, uint8_t *digest)

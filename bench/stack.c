@@ -44,7 +44,7 @@ static void call_sha1(void)
 }
 
 /* Both, and a number that is none. */
-static const uint32_t algorithms[] = {MD5, SHA1, 3};
+static const uint32_t algorithms[] = {LIFT_MD5, LIFT_SHA1, 3};
 
 /* Shortest and longest inputs, a seed in upper case, each refusal. */
 static void call_password_by(uint32_t algorithm)
