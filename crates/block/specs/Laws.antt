@@ -5,7 +5,9 @@ use mathlib.Core.List.{List}
 use borrow.Author.Tests.{lt-ltb, le-ltb, eq-eqb, ne-eqb}
 use native.Mathlib.Omega.{arith}
 use lib.ListN.{length, getD}
-use Rattle.digests.specs.Padding.{Order, blocks, lengthByte, paddedByte, word, paddedWord}
+use Rattle.digests.specs.declared.Order.{Order}
+use Rattle.digests.specs.Words.{word}
+use Rattle.digests.specs.Padding.{blocks, lengthByte, paddedByte, paddedWord}
 
 module _ (order : Order) (m : List ℕ) (i : ℕ) where
   pub byte-message : i < length m → paddedByte order m i ≡ getD m i 0

@@ -1,11 +1,16 @@
-// A message's padding, its blocks and their words (RFC 1321, 2, 3.1 and 3.2), low-order byte first.
+// A message's padding, its blocks and their words, in either byte order: RFC 1321, 2, 3.1 and 3.2; FIPS 180-4, 5.1.1
+// and 5.2.1.
 ghost use mathlib.Core.Path.{_≡_};
 ghost use Prim.Native.Nat.{_+_, _*_, _<_, _≤_};
 ghost use lib.ListN.{length};
-ghost use Rattle.digests.specs.Padding.{blocks, paddedByte, word, paddedWord, blockAt, little};
+ghost use Rattle.digests.specs.Padding.{blocks, lengthByte, paddedByte, paddedWord, blockAt};
+ghost use Rattle.digests.specs.Words as spec;
+use digests::Order;
 
 // The sum and the rotation of words.
 pub mod arithmetic;
+// The words of a digest as bytes at the front of a buffer.
+pub mod put;
 
 // How many blocks the padded message has.
 pub fn count(m: &[u8]) -> usize
@@ -14,10 +19,21 @@ pub fn count(m: &[u8]) -> usize
     (m.len() + 8) / 64 + 1
 }
 
+// Byte k of a length in bits, written as eight bytes.
+fn length_byte(order: Order, bits: usize, k: usize) -> u8
+    requires { ⌜ k < 8 ⌝ }
+    ensures { λ r. ⌜ r ≡ lengthByte order bits k ⌝ }
+{
+    match order {
+        Order::Little => ((bits >> (8 * k)) % 256) as u8,
+        Order::Big => ((bits >> (8 * (7 - k))) % 256) as u8,
+    }
+}
+
 // Byte i of the padded message.
-fn byte(m: &[u8], i: usize) -> u8
+fn byte(order: Order, m: &[u8], i: usize) -> u8
     requires { ⌜ (length (now m) ≤ 4096) × (i < 64 * blocks (length (now m))) ⌝ }
-    ensures { λ r. ⌜ r ≡ paddedByte little (now (m .entry)) i ⌝ }
+    ensures { λ r. ⌜ r ≡ paddedByte order (now (m .entry)) i ⌝ }
 {
     let n = m.len();
     if i < n {
@@ -30,75 +46,84 @@ fn byte(m: &[u8], i: usize) -> u8
     if i < end {
         return 0;
     }
-    let bits = 8 * n;
-    ((bits >> (8 * (i - end))) % 256) as u8
+    length_byte(order, 8 * n, i - end)
 }
 
 // Four bytes as they stand in a message, as a word.
-fn joined(b0: u8, b1: u8, b2: u8, b3: u8) -> u32
-    ensures { λ r. ⌜ r ≡ word little b0 b1 b2 b3 ⌝ }
+fn joined(order: Order, b0: u8, b1: u8, b2: u8, b3: u8) -> u32
+    ensures { λ r. ⌜ r ≡ spec.word order b0 b1 b2 b3 ⌝ }
 {
-    (b0 as u32) + (b1 as u32) * 256 + (b2 as u32) * 65536 + (b3 as u32) * 16777216
+    match order {
+        Order::Little => (b0 as u32)
+            + (b1 as u32) * 256
+            + (b2 as u32) * 65536
+            + (b3 as u32) * 16777216,
+        Order::Big => (b3 as u32)
+            + (b2 as u32) * 256
+            + (b1 as u32) * 65536
+            + (b0 as u32) * 16777216,
+    }
 }
 
 // Word i of the padded message.
-fn padded_word(m: &[u8], i: usize) -> u32
+fn padded_word(order: Order, m: &[u8], i: usize) -> u32
     requires { ⌜ (length (now m) ≤ 4096) × (i < 16 * blocks (length (now m))) ⌝ }
-    ensures { λ r. ⌜ r ≡ paddedWord little (now (m .entry)) i ⌝ }
+    ensures { λ r. ⌜ r ≡ paddedWord order (now (m .entry)) i ⌝ }
 {
     let at = 4 * i;
     joined(
-        byte(m, at),
-        byte(m, at + 1),
-        byte(m, at + 2),
-        byte(m, at + 3),
+        order,
+        byte(order, m, at),
+        byte(order, m, at + 1),
+        byte(order, m, at + 2),
+        byte(order, m, at + 3),
     )
 }
 
 // Word i of the padded message, where it lies in the message itself.
-fn message_word(m: &[u8], i: usize) -> u32
+fn message_word(order: Order, m: &[u8], i: usize) -> u32
     requires { ⌜ 4 * i + 4 ≤ length (now m) ⌝ }
-    ensures { λ r. ⌜ r ≡ paddedWord little (now (m .entry)) i ⌝ }
+    ensures { λ r. ⌜ r ≡ paddedWord order (now (m .entry)) i ⌝ }
 {
     let at = 4 * i;
-    joined(m[at], m[at + 1], m[at + 2], m[at + 3])
+    joined(order, m[at], m[at + 1], m[at + 2], m[at + 3])
 }
 
 // Block j, all of whose bytes are the message's.
-fn message_block(m: &[u8], j: usize) -> [u32; 16]
+fn message_block(order: Order, m: &[u8], j: usize) -> [u32; 16]
     requires { ⌜ 64 * j + 64 ≤ length (now m) ⌝ }
-    ensures { λ r. ⌜ r ≡ blockAt little (now (m .entry)) j ⌝ }
+    ensures { λ r. ⌜ r ≡ blockAt order (now (m .entry)) j ⌝ }
 {
     let mut w = [0u32; 16];
     let mut k = 0;
     while k < 16 {
-        w[k] = message_word(m, 16 * j + k);
+        w[k] = message_word(order, m, 16 * j + k);
         k += 1;
     }
     w
 }
 
 // Block j, some of whose bytes are padding.
-fn padded_block(m: &[u8], j: usize) -> [u32; 16]
+fn padded_block(order: Order, m: &[u8], j: usize) -> [u32; 16]
     requires { ⌜ (length (now m) ≤ 4096) × (j < blocks (length (now m))) ⌝ }
-    ensures { λ r. ⌜ r ≡ blockAt little (now (m .entry)) j ⌝ }
+    ensures { λ r. ⌜ r ≡ blockAt order (now (m .entry)) j ⌝ }
 {
     let mut w = [0u32; 16];
     let mut k = 0;
     while k < 16 {
-        w[k] = padded_word(m, 16 * j + k);
+        w[k] = padded_word(order, m, 16 * j + k);
         k += 1;
     }
     w
 }
 
 // Block j of the padded message, its sixteen words.
-pub fn block(m: &[u8], j: usize) -> [u32; 16]
+pub fn block(order: Order, m: &[u8], j: usize) -> [u32; 16]
     requires { ⌜ (length (now m) ≤ 4096) × (j < blocks (length (now m))) ⌝ }
-    ensures { λ r. ⌜ r ≡ blockAt little (now (m .entry)) j ⌝ }
+    ensures { λ r. ⌜ r ≡ blockAt order (now (m .entry)) j ⌝ }
 {
     if 64 * j + 64 <= m.len() {
-        return message_block(m, j);
+        return message_block(order, m, j);
     }
-    padded_block(m, j)
+    padded_block(order, m, j)
 }

@@ -12,11 +12,11 @@ use Rattle.refusal.specs.declared.Reading.{Reading}
 use Rattle.refusal.specs.Numbers.{listingOf, checkedNumbers}
 use Rattle.refusal.specs.Each.{Each}
 use Rattle.text.specs.Put.{writtenOf}
-use Rattle.digests.specs.Md5.{md5}
-use Rattle.md5.specs.Digest.{digestOf}
+use Rattle.block.specs.Digest.{digestOf}
+use Rattle.password.specs.declared.algorithm.Algorithm.{Algorithm}
 use Rattle.password.specs.PhraseAndSeed.{phraseChecked, seedChecked}
-use Rattle.password.specs.Password.{Algorithm, generated}
-use Rattle.challenge.specs.Challenges.{challengeOf, challengeText, challengeWritten}
+use Rattle.password.specs.Password.{digestBy, generated}
+use Rattle.challenge.specs.Challenges.{challengeOf, challengeNumbered, challengeWritten}
 use Rattle.hex.specs.Hex.{hexOf, sixteenDigits, hexReading}
 use Rattle.sixwords.specs.Spelling.{wordsOf}
 use Rattle.reply.specs.Reply.{readingOf}
@@ -33,6 +33,7 @@ use Rattle.grounds.specs.Conditions.{
   FirstHolds,
   Exactly,
   phraseRows,
+  algorithmRows,
   seedRows,
   roomRows,
   challengeRows,
@@ -69,14 +70,15 @@ place-of-31 text place e = word-place text place e
 -- ---- "Bad input is refused by the number listed for it": for every input of each function, the number is the answer exactly if its
 -- condition holds and those before it don't, in the order of the checks, and there is no refusal exactly if none holds.
 
-pub digest-refusals : (m : List ℕ) (room : ℕ)
-    → Exactly (writtenNumber (digestOf m room)) ((12, ltb 4096 (length m)) ∷ roomRows room (md5 m))
-digest-refusals m room = Refusing.digest-exactly m room
+-- MD5 and SHA-1: 12, then 40
+pub digest-refusals : (algorithm : Algorithm) (m : List ℕ) (room : ℕ)
+    → Exactly (writtenNumber (digestOf (digestBy algorithm) m room)) ((12, ltb 4096 (length m)) ∷ roomRows room (digestBy algorithm m))
+digest-refusals algorithm m room = Refusing.digest-exactly (digestBy algorithm) m room
 
--- "The generator checks 10, 11, 23, 24, 13 in that order"
-pub generator-refusals : (phrase seed : List ℕ) (count : ℕ)
-    → Exactly (readNumber (generated Algorithm.md5 phrase seed count)) (phraseRows phrase ++ seedRows seed ++ (13, ltb 9999 count) ∷ [])
-generator-refusals phrase seed count = Refusing.generator-exactly phrase seed count
+-- "The generator checks 10, 11, 23, 24, 13 in that order", and R-1's 21 "first"
+pub generator-refusals : (number : ℕ) (phrase seed : List ℕ) (count : ℕ)
+    → Exactly (readNumber (generated number phrase seed count)) (algorithmRows number ++ phraseRows phrase ++ seedRows seed ++ (13, ltb 9999 count) ∷ [])
+generator-refusals number phrase seed count = Refusing.generator-exactly number phrase seed count
 
 -- 30 to 33
 pub reply-refusals : (text : List ℕ) → Exactly (readNumber (readingOf text)) (replyRows text)
@@ -86,11 +88,11 @@ reply-refusals text = Refusing.reply-exactly text
 pub challenge-refusals : (text : List ℕ) → Exactly (challengeNumber (challengeOf text)) (challengeRows text)
 challenge-refusals text = Refusing.challenge-exactly text
 
--- "the challenge writer 23, 24, 13, 40"
-pub challenge-writer-refusals : (seed : List ℕ) (count room : ℕ)
-    → Exactly (writtenNumber (challengeWritten seed count room))
-    (seedRows seed ++ (13, ltb 9999 count) ∷ roomRows room (challengeText seed count))
-challenge-writer-refusals seed count room = Refusing.challenge-writer-exactly seed count room
+-- "the challenge writer 23, 24, 13, 40", and R-1's 21 "first"
+pub challenge-writer-refusals : (number : ℕ) (seed : List ℕ) (count room : ℕ)
+    → Exactly (writtenNumber (challengeWritten number seed count room))
+    (algorithmRows number ++ seedRows seed ++ (13, ltb 9999 count) ∷ roomRows room (challengeNumbered number seed count))
+challenge-writer-refusals number seed count room = Refusing.challenge-writer-exactly number seed count room
 
 -- "the word and hex writers only 40"
 pub words-writer-refusals : (p room : ℕ) → Exactly (writtenNumber (writtenOf room (wordsOf p))) (roomRows room (wordsOf p))
@@ -123,9 +125,9 @@ phrase-refusals phrase = Refusing.phrase-exactly phrase
 pub seed-refusals : (seed : List ℕ) → Exactly (checkedNumbers (seedChecked seed) .0) (seedRows seed)
 seed-refusals seed = Refusing.seed-exactly seed
 
-pub values-refusals : (count : ℕ) (seed : List ℕ) (present : Room)
-    → Exactly (checkedNumbers (valuesChecked count seed present) .0) (valuesRows count seed present)
-values-refusals count seed present = Refusing.values-exactly count seed present
+pub values-refusals : (number count : ℕ) (seed : List ℕ) (present : Room)
+    → Exactly (checkedNumbers (valuesChecked number count seed present) .0) (valuesRows number count seed present)
+values-refusals number count seed present = Refusing.values-exactly number count seed present
 
 pub hex-reader-refusals : (s : List ℕ) → Exactly (readNumber (hexReading s)) ((33, not (sixteenDigits s)) ∷ [])
 hex-reader-refusals s = Refusing.hex-reader-exactly s

@@ -1,9 +1,11 @@
 -- MD5 as RFC 1321 gives it: the registers at the start, after all blocks, and the digest.
-use Prim.Native.Nat.{ℕ, _/_, _%_}
-use mathlib.Core.List.{List, [], _∷_, _++_}
+use Prim.Native.Nat.{ℕ}
+use mathlib.Core.List.{List, _++_}
 use lib.ListN.{length}
-use Rattle.digests.specs.Padding.{little, blocks, absorbed}
+use Rattle.digests.specs.declared.Order.{Order}
 use Rattle.digests.specs.declared.State.{State}
+use Rattle.digests.specs.Words.{bytes4}
+use Rattle.digests.specs.Padding.{blocks, absorbed}
 use Rattle.digests.specs.Rounds.{compressed}
 
 -- 3.3: the registers at the start
@@ -12,12 +14,10 @@ initial = record { a = 0x67452301; b = 0xefcdab89; c = 0x98badcfe; d = 0x1032547
 
 -- 3.4: the registers after all blocks of the padded message
 unfoldable pub registers : List ℕ → State
-registers m = absorbed little compressed initial m (blocks (length m))
+registers m = absorbed Order.Little compressed initial m (blocks (length m))
 
--- 3.5: a register as four bytes, low-order byte first, and the digest: A, B, C, D
-abbrev pub bytes4 : ℕ → List ℕ
-bytes4 x = (x % 256) ∷ (x / 256 % 256) ∷ (x / 65536 % 256) ∷ (x / 16777216 % 256) ∷ []
-
+-- 3.5: the digest is A, B, C, D, each low-order byte first
 unfoldable pub md5 : List ℕ → List ℕ
 md5 m =
-    bytes4 (registers m .a) ++ bytes4 (registers m .b) ++ bytes4 (registers m .c) ++ bytes4 (registers m .d)
+    bytes4 Order.Little (registers m .a) ++ bytes4 Order.Little (registers m .b) ++ bytes4 Order.Little (registers m .c)
+    ++ bytes4 Order.Little (registers m .d)

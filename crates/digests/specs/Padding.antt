@@ -1,15 +1,13 @@
--- A message padded to whole blocks and cut into words: RFC 1321, 3.1, 3.2 and 2. The byte order is a
--- parameter, since FIPS 180 pads alike and writes its numbers the other way round.
+-- A message padded to whole blocks and cut into words: RFC 1321, 3.1, 3.2 and 2; FIPS 180-4, 5.1.1 and 5.2.1.
+-- The byte order is a parameter, since FIPS 180-4 pads alike and writes its numbers the other way round.
 use Prim.Native.Nat.{ℕ, zero, suc, _+_, _*_, _-_, _/_, _%_, _^_}
 use mathlib.Core.Bool.{cond}
 use mathlib.Core.List.{List}
 use lib.Dec.{ltb, eqb}
 use lib.ListN.{length, getD}
+use Rattle.digests.specs.declared.Order.{Order}
 use Rattle.digests.specs.Lists.{upTo}
-
--- "low-order byte first", or the high-order byte first
-pub data Order : Type 0 where
-  little big : Order
+use Rattle.digests.specs.Words.{word}
 
 -- 3.1, 3.2: how many blocks of 64 bytes a message of n bytes takes: the fewest that hold the message,
 -- the byte that starts the padding, and the eight bytes of the length.
@@ -18,8 +16,8 @@ blocks n = (n + 8) / 64 + 1
 
 -- 3.2: byte k of a length in bits, written as eight bytes.
 abbrev pub lengthByte : Order → ℕ → ℕ → ℕ
-lengthByte little bits k = bits / 2 ^ (8 * k) % 256
-lengthByte big bits k = bits / 2 ^ (8 * (7 - k)) % 256
+lengthByte Order.Little bits k = bits / 2 ^ (8 * k) % 256
+lengthByte Order.Big bits k = bits / 2 ^ (8 * (7 - k)) % 256
 
 -- Byte i of the padded message: the message; 3.1, one bit 1 and then bits 0; 3.2, in the last eight
 -- bytes the message's length in bits.
@@ -29,11 +27,6 @@ paddedByte order m i =
     (cond (eqb i (length m)) 128
     (cond (ltb i (64 * blocks (length m) - 8)) 0
     (lengthByte order (8 * length m) (i - (64 * blocks (length m) - 8)))))
-
--- 2: a word is four bytes in the byte order, here b₀ to b₃ as they stand in the message.
-abbrev pub word : Order → ℕ → ℕ → ℕ → ℕ → ℕ
-word little b₀ b₁ b₂ b₃ = b₀ + b₁ * 256 + b₂ * 65536 + b₃ * 16777216
-word big b₀ b₁ b₂ b₃ = b₃ + b₂ * 256 + b₁ * 65536 + b₀ * 16777216
 
 -- Word i of the padded message.
 unfoldable pub paddedWord : Order → List ℕ → ℕ → ℕ

@@ -1,19 +1,10 @@
--- The four rounds of RFC 1321, 2 and 3.4: words, the four functions, the operations on the registers.
-use Prim.Native.Nat.{ℕ, zero, suc, _+_, _*_, _-_, _/_, _%_, _^_}
+-- The four rounds of RFC 1321, 3.4: the four functions, the operations on the registers.
+use Prim.Native.Nat.{ℕ, zero, suc}
 use mathlib.Core.List.{List, [], _∷_}
 use lib.Bits.{bitAnd, bitOr, bitXor}
 use lib.ListN.{getD}
 use Rattle.digests.specs.declared.State.{State}
-
--- 2: X + Y, modulo 2^32; X <<< s, X's bits shifted left around by s; not(X)
-abbrev pub add : ℕ → ℕ → ℕ
-add x y = (x + y) % 2 ^ 32
-
-abbrev pub rotated : ℕ → ℕ → ℕ
-rotated x s = bitOr (x * 2 ^ s % 2 ^ 32) (x / 2 ^ (32 - s))
-
-abbrev pub complement : ℕ → ℕ
-complement x = 2 ^ 32 - 1 - x
+use Rattle.digests.specs.Words.{add, rotated, complement}
 
 -- 3.4: the four functions
 abbrev pub F : ℕ → ℕ → ℕ → ℕ

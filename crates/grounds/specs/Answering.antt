@@ -14,11 +14,13 @@ use Rattle.text.specs.Kinds.{isUpper, isLower, isLetter, isDigit, lowerOf}
 use Rattle.text.specs.Tests.{every, both}
 use Rattle.text.specs.Put.{front}
 use Rattle.password.specs.PhraseAndSeed.{phraseChecked, plain, seedChecked}
-use Rattle.password.specs.Laws.{generated-good}
+use Rattle.password.specs.declared.algorithm.Algorithm.{Algorithm}
+use Rattle.password.specs.Algorithm.{algorithmNumber, algorithmName}
+use Rattle.password.specs.Laws.{generated-good, generated-numbered}
 use Rattle.password.specs.Bounds.{password-bound}
-use Rattle.password.specs.Password.{Algorithm, bytesOf, hash, password, generated}
+use Rattle.password.specs.Password.{bytesOf, hash, password, generated}
 use Rattle.text.specs.Counts.{widthOf}
-use Rattle.challenge.specs.Challenges.{challengeOf, seedOf, challengeWritten}
+use Rattle.challenge.specs.Challenges.{challengeOf, seedOf, challengeWrittenBy}
 use Rattle.readback.specs.ChallengeRead.{written-read, written-seed-read}
 use Rattle.hex.specs.Hex.{hexOf}
 use Rattle.sixwords.specs.Spelling.{wordsOf}
@@ -33,7 +35,7 @@ use Rattle.table.specs.Steps.{turnChecked, challengeFor, challenge}
 use Rattle.reached.specs.Calls.{Call, run}
 use Rattle.reached.specs.InTurn.{quiet, HasTurn}
 use Rattle.reached.specs.Outcome.{turn-good, turn-holder}
-use Rattle.reached.specs.Day.{Accepts, Day}
+use Rattle.reached.specs.Day.{passwordOf, Accepts, Day}
 use Rattle.reached.specs.Made.{isKept, Made}
 use Rattle.grounds.specs.Keeps.{account-good, made-run}
 use Rattle.grounds.specs.Owned.{turn-there, turn-keeps, challenge-kept}
@@ -71,27 +73,25 @@ seed-checked seed a b e = rw (le-leb 1 (length seed) a, le-leb (length seed) 16 
 -- ---- the day, for the account whose turn it is
 
 -- One more hash of what the pass-phrase gives at a count is what it gives at the next.
-next-hash : (phrase seed : List ℕ) (n : ℕ) → 1 < n
-    → hash (accountOf (turnId s) s .algorithm) (bytesOf (password Algorithm.md5 phrase seed (n - 1))) ≡ password Algorithm.md5 phrase seed n
+next-hash : (algorithm : Algorithm) (phrase seed : List ℕ) (n : ℕ) → 1 < n
+    → hash algorithm (bytesOf (password algorithm phrase seed (n - 1))) ≡ password algorithm phrase seed n
 unfolding password
-next-hash phrase seed n h =
+next-hash algorithm phrase seed n h =
     let next : suc (n - 1) ≡ n = omega arith in
-    ap (password Algorithm.md5 phrase seed) next
+    ap (password algorithm phrase seed) next
 
 module _ (p : ℕ) (phrase : List ℕ) (s : State) (checked : turnChecked p s ≡ Checked.Good)
-    (stored : accountOf (turnId s) s .password
-    ≡ password Algorithm.md5 phrase (accountOf (turnId s) s .seed) (accountOf (turnId s) s .count)) where
+    (stored : accountOf (turnId s) s .password ≡ passwordOf phrase (accountOf (turnId s) s) (accountOf (turnId s) s .count)) where
   -- A text that reads as the password one count down is accepted.
   reads-accepted : (text : List ℕ)
-      → readingOf text ≡ Reading.Password (password Algorithm.md5 phrase (accountOf (turnId s) s .seed) (accountOf (turnId s) s .count - 1))
-      → Accepts p (turnId s) text (accountOf (turnId s) s .count - 1)
-      (password Algorithm.md5 phrase (accountOf (turnId s) s .seed) (accountOf (turnId s) s .count - 1)) s
+      → readingOf text ≡ Reading.Password (passwordOf phrase (accountOf (turnId s) s) (accountOf (turnId s) s .count - 1))
+      → Accepts p (turnId s) text (accountOf (turnId s) s .count - 1) (passwordOf phrase (accountOf (turnId s) s) (accountOf (turnId s) s .count - 1)) s
   reads-accepted text r =
       let old = accountOf (turnId s) s in
-      let w = password Algorithm.md5 phrase (old .seed) (old .count - 1) in
+      let w = passwordOf phrase old (old .count - 1) in
       let g = turn-good p s checked in
-      let took = reply-accepted p w text s checked r (next-hash phrase (old .seed) (old .count) (g .unused) ∙ sym stored) in
-      let with-id : ℕ → Room = λ j. record { id = j; seed = old .seed; count = old .count - 1; password = w } in
+      let took = reply-accepted p w text s checked r (next-hash (old .algorithm) phrase (old .seed) (old .count) (g .unused) ∙ sym stored) in
+      let with-id : ℕ → Room = λ j. record { id = j; algorithm = old .algorithm; seed = old .seed; count = old .count - 1; password = w } in
       record {
         answered = ap (λ (a : Steps.After Replied). a .answer) took;
         kept =
@@ -101,12 +101,13 @@ module _ (p : ℕ) (phrase : List ℕ) (s : State) (checked : turnChecked p s �
 
 module _ (p : ℕ) (phrase buffer : List ℕ) (s : State) (m : Made s) (t : HasTurn p (turnId s) s) where
   turn-day : 1 < accountOf (turnId s) s .count → phraseChecked phrase ≡ Checked.Good
-      → accountOf (turnId s) s .password ≡ password Algorithm.md5 phrase (accountOf (turnId s) s .seed) (accountOf (turnId s) s .count)
+      → accountOf (turnId s) s .password ≡ passwordOf phrase (accountOf (turnId s) s) (accountOf (turnId s) s .count)
       → length (challengeFor s) ≤ length buffer → Day p (turnId s) phrase buffer s s
-  unfolding challenge challengeWritten
+  unfolding challenge challengeWrittenBy
   turn-day unused long stored room =
       let facts = turn-there p (turnId s) s m t in
       let old = accountOf (turnId s) s in
+      let algorithm = old .algorithm in
       let seed = old .seed in
       let count = old .count - 1 in
       let good = account-good (turnId s) s (facts .0) (m .good) in
@@ -115,23 +116,25 @@ module _ (p : ℕ) (phrase buffer : List ℕ) (s : State) (m : Made s) (t : HasT
       let most = good .count-to in
       let low : count ≤ 9999 = omega arith in
       let checked = turn-checked p s (facts .1) (facts .2) (t .front) (facts .0) unused in
-      let new = password Algorithm.md5 phrase seed count in
-      let small = password-bound Algorithm.md5 phrase seed count in
+      let new = password algorithm phrase seed count in
+      let small = password-bound algorithm phrase seed count in
       let written : take (length (challengeFor s)) (front (challengeFor s) buffer) ≡ challengeFor s =
       take-at (challengeFor s) (drop (length (challengeFor s)) buffer) (length (challengeFor s)) refl in
-      let seed-read = ap seedOf written ∙ written-seed-read seed count right low ∙ keeps .0 in
+      let seed-read = ap seedOf written ∙ written-seed-read algorithm seed count right low ∙ keeps .0 in
       record {
         written = length (challengeFor s);
+        algorithm = algorithm;
         count = count;
-        start = 9 + widthOf count;
+        start = 6 + length (algorithmName algorithm) + widthOf count;
         len = length seed;
         used = length (challengeFor s);
         generated-as = new;
         challenge-written = rw (checked, right, le-ltb 9999 count low, le-leb (length (challengeFor s)) (length buffer) room);
-        challenge-read = ap challengeOf written ∙ written-read seed count right low;
+        challenge-read = ap challengeOf written ∙ written-read algorithm seed count right low;
         password-generated =
-            ap (λ (q : List ℕ). generated Algorithm.md5 phrase q count) seed-read
-            ∙ generated-good Algorithm.md5 phrase seed count long right low;
+            ap (λ (q : List ℕ). generated (algorithmNumber algorithm) phrase q count) seed-read
+            ∙ generated-numbered algorithm phrase seed count ∙ generated-good algorithm phrase seed count long right low;
+        algorithm-own = refl;
         count-less = omega arith;
         generated-is = refl;
         hex-accepted = reads-accepted p phrase s checked stored (hexOf new) (hex-written-read new small);
@@ -139,11 +142,11 @@ module _ (p : ℕ) (phrase buffer : List ℕ) (s : State) (m : Made s) (t : HasT
       }
 
 pub day : (p i : ℕ) (phrase buffer : List ℕ) (s : State) → Made s → HasTurn p i s → 1 < accountOf i s .count → phraseChecked phrase ≡ Checked.Good
-    → accountOf i s .password ≡ password Algorithm.md5 phrase (accountOf i s .seed) (accountOf i s .count)
+    → accountOf i s .password ≡ passwordOf phrase (accountOf i s) (accountOf i s .count)
     → length (challengeFor s) ≤ length buffer → Day p i phrase buffer s s
 day p i phrase buffer s m t =
     subst (λ (j : ℕ). 1 < accountOf j s .count → phraseChecked phrase ≡ Checked.Good
-    → accountOf j s .password ≡ password Algorithm.md5 phrase (accountOf j s .seed) (accountOf j s .count)
+    → accountOf j s .password ≡ passwordOf phrase (accountOf j s) (accountOf j s .count)
     → length (challengeFor s) ≤ length buffer → Day p j phrase buffer s s) (t .account)
     (turn-day p phrase buffer s m (record { front = t .front; account = refl }))
 
@@ -155,13 +158,14 @@ day-then : (p i : ℕ) (phrase buffer : List ℕ) (s t : State) → accountOf i 
 day-then p i phrase buffer s t same now next =
     let counts : next .count ≡ now .count = omega (arith, now .count-less, next .count-less, ap (λ (room : Room). room .count) same) in
     let one : next .generated-as ≡ now .generated-as =
-    next .generated-is ∙ ap₂ (password Algorithm.md5 phrase) (ap (λ (room : Room). room .seed) same) counts ∙ sym (now .generated-is) in
+    next .generated-is ∙ (λ k. passwordOf phrase (same k) (counts k)) ∙ sym (now .generated-is) in
     let accepts : (text : ℕ → List ℕ) → Accepts p i (text (next .generated-as)) (next .count) (next .generated-as) t
     → Accepts p i (text (now .generated-as)) (now .count) (now .generated-as) t =
     λ text a. subst (λ (n : ℕ). Accepts p i (text (now .generated-as)) n (now .generated-as) t) counts
     (subst (λ (w : ℕ). Accepts p i (text w) (next .count) w t) one a) in
     record {
       written = now .written;
+      algorithm = now .algorithm;
       count = now .count;
       start = now .start;
       len = now .len;
@@ -170,6 +174,7 @@ day-then p i phrase buffer s t same now next =
       challenge-written = now .challenge-written;
       challenge-read = now .challenge-read;
       password-generated = now .password-generated;
+      algorithm-own = now .algorithm-own;
       count-less = now .count-less;
       generated-is = now .generated-is;
       hex-accepted = accepts hexOf (next .hex-accepted);
@@ -177,12 +182,12 @@ day-then p i phrase buffer s t same now next =
     }
 
 pub day-later : (p i : ℕ) (phrase buffer : List ℕ) (s : State) → Made s → HasTurn p i s → 1 < accountOf i s .count → phraseChecked phrase ≡ Checked.Good
-    → accountOf i s .password ≡ password Algorithm.md5 phrase (accountOf i s .seed) (accountOf i s .count)
+    → accountOf i s .password ≡ passwordOf phrase (accountOf i s) (accountOf i s .count)
     → length (challengeFor s) ≤ length buffer
     → (during : List Call) → every (quiet p i) during ≡ true → HasTurn p i (run during s) → Day p i phrase buffer s (run during s)
 day-later p i phrase buffer s m t unused long stored room during q u =
     let same = turn-keeps p i during s m t q u in
     day-then p i phrase buffer s (run during s) same (day p i phrase buffer s m t unused long stored room)
     (day p i phrase buffer (run during s) (made-run during s m) u (subst (λ (r : Room). 1 < r .count) (sym same) unused) long
-    (subst (λ (r : Room). r .password ≡ password Algorithm.md5 phrase (r .seed) (r .count)) (sym same) stored)
+    (subst (λ (r : Room). r .password ≡ passwordOf phrase r (r .count)) (sym same) stored)
     (subst (λ (text : List ℕ). length text ≤ length buffer) (sym (challenge-kept p i during s m t q u)) room))

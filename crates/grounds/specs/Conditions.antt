@@ -1,4 +1,4 @@
--- The conditions of the refusals, in document 01's words: the rows of each function, in the order of its checks.
+-- The conditions of the refusals, in the words of documents 01 and 02: the rows of each function, in the order of its checks.
 use Prim.Native.Nat.{ℕ, _/_, _%_}
 use mathlib.Core.Path.{_≡_}
 use mathlib.Core.Logic.{_↔_}
@@ -14,13 +14,13 @@ use Rattle.text.specs.Scan.{tokens, unspaced}
 use Rattle.text.specs.Quoted.{codes}
 use Rattle.text.specs.Counts.{isCount, decimalOf}
 use Rattle.password.specs.PhraseAndSeed.{plain}
-use Rattle.password.specs.Password.{Algorithm, bytesOf, hash}
+use Rattle.password.specs.Password.{bytesOf, hash}
 use Rattle.dictionary.specs.declared.Found.{Found}
 use Rattle.dictionary.specs.Dictionary.{placeOf}
 use Rattle.sixwords.specs.Places.{pairSum, joined}
 use Rattle.hex.specs.Hex.{sixteenDigits}
 use Rattle.reply.specs.Reply.{sixWords, upperText, readingOf}
-use Rattle.challenge.specs.Challenges.{opening, algorithm, tokenAt, endOf, countAt, seedAt, terminated, challengeOf}
+use Rattle.challenge.specs.Challenges.{opening, tokenAt, endOf, countAt, seedAt, terminated, challengeOf}
 use Rattle.cards.specs.CardChecks.{countOf}
 use Rattle.cards.specs.Cards.{cardOf}
 use Rattle.cards.specs.Printed.{firstLine, keptLine, pastLine, linesAsked}
@@ -68,15 +68,19 @@ seedRows seed =
     (23, not (leb 1 (length seed) && leb (length seed) 16)) ∷
     (24, not (plain seed)) ∷ []
 
+-- 21, by number: "an unknown algorithm", where 1 is md5 and 2 is sha1
+abbrev pub algorithmRows : ℕ → List Row
+algorithmRows number = (21, not (eqb number 1 || eqb number 2)) ∷ []
+
 -- 40: "buffer shorter than the text to be written"
 abbrev pub roomRows : ℕ → List ℕ → List Row
 roomRows room text = (40, ltb room (length text)) ∷ []
 
--- 20 to 25: the steps of 'Challenges'
+-- 20 to 25: the steps of 'Challenges', with 21 as R-1 has it, "neither `md5` nor `sha1`"
 abbrev pub challengeRows : List ℕ → List Row
 challengeRows text =
     (20, not (same (take 4 text) opening)) ∷
-    (21, not (same (tokenAt text 4) algorithm)) ∷
+    (21, not (same (tokenAt text 4) (codes "md5") || same (tokenAt text 4) (codes "sha1"))) ∷
     (22, not (isCount (tokenAt text (countAt text)))) ∷ []
     ++ seedRows (tokenAt text (seedAt text))
     ++ (25, not (terminated (drop (endOf text (seedAt text)) text))) ∷ []
@@ -141,10 +145,11 @@ cardAsked input = cardOf (firstLine input) (keptLine (pastLine input)) (linesAsk
 abbrev pub isOutside : ℕ → Bool
 isOutside count = not (leb 2 count && leb count 9999)
 
--- An account's new values: 51, 23, 24, and 63, "new seed equals the present one, case folded".
-abbrev pub valuesRows : ℕ → List ℕ → Room → List Row
-valuesRows count seed present =
+-- An account's new values: 51, 21 "after 51", 23, 24, and 63, "new seed equals the present one, case folded".
+abbrev pub valuesRows : ℕ → ℕ → List ℕ → Room → List Row
+valuesRows number count seed present =
     (51, isOutside count) ∷ []
+    ++ algorithmRows number
     ++ seedRows seed
     ++ (63, same (map lowerOf seed) (present .seed)) ∷ []
 
@@ -161,7 +166,7 @@ abbrev pub said : Reading → ℕ
 said (Reading.Password password) = password
 said (Reading.Refused why) = 0
 
--- "Hash the password once": it does not equal the stored one.
+-- "Hash the password once", by the account's algorithm: it does not equal the stored one.
 abbrev pub isWrong : List ℕ → State → Bool
 isWrong text s = not (eqb (hash (accountOf (turnId s) s .algorithm) (bytesOf (said (readingOf text)))) (accountOf (turnId s) s .password))
 
@@ -180,6 +185,7 @@ abbrev pub conditionsOf : Call → State → List Row
 conditionsOf (Call.Enrol id number count seed password) s =
     (50, eqb id 0) ∷
     (51, isOutside count) ∷ []
+    ++ algorithmRows number
     ++ seedRows seed
     ++ (52, isThere id s) ∷
     (53, eqb (accountsIn (s .rooms)) 32) ∷ []
@@ -203,7 +209,7 @@ conditionsOf (Call.Reply port text) s =
     ++ wrongRows port text s
 conditionsOf (Call.Renew port number count seed password text) s =
     turnRows port s
-    ++ valuesRows count seed (accountOf (turnId s) s)
+    ++ valuesRows number count seed (accountOf (turnId s) s)
     ++ replyRows text
     ++ wrongRows port text s
 conditionsOf Call.Tick s = []

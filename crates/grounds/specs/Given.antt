@@ -12,14 +12,16 @@ use Rattle.digests.specs.Lists.{upTo}
 use Rattle.digests.specs.Padding.{paddedByte, paddedWord, blockAt, absorbed}
 use Rattle.digests.specs.Md5.{md5, registers}
 use Rattle.digests.specs.Rounds.{compressed, rounds, performed, operation, round1, round2, round3, round4}
+use Rattle.password.specs.declared.algorithm.Algorithm.{Algorithm}
+use Rattle.password.specs.Algorithm.{algorithmName}
 use Rattle.password.specs.PhraseAndSeed.{plain}
-use Rattle.password.specs.Password.{Algorithm, fold, numberAfter, bytesOf, hash, generated}
+use Rattle.password.specs.Password.{fold, numberAfter, bytesOf, hash, generatedBy, generated}
 use Rattle.dictionary.specs.Words.{wordsIn, lines, words}
 use Rattle.dictionary.specs.Dictionary as Dictionary
 use Rattle.sixwords.specs.Places.{pairs, pairSum, allPlaces, numberOf}
 use Rattle.sixwords.specs.Places as Places
 use Rattle.text.specs.Counts.{isCount}
-use Rattle.challenge.specs.Challenges.{opening, algorithm, tokenAt, nextAt, countAt, seedAt, challengeOf}
+use Rattle.challenge.specs.Challenges.{opening, tokenAt, nextAt, countAt, seedAt, challengeOf}
 use Rattle.text.specs.Tests.{same}
 use Rattle.hex.specs.Hex.{hexOf}
 use Rattle.hex.specs.Hex.{sixteenDigits, hexReading}
@@ -51,25 +53,25 @@ use Rattle.refusal.specs.Each.{Each, each-append}
 
 -- 10 and 11, 13: the generator; 12: the digest
 generator-given : Each Given (10 ∷ 11 ∷ 12 ∷ 13 ∷ [])
-unfolding generated plain every codes
+unfolding generated generatedBy plain every codes
 generator-given = (
-  Given.generator (replicate 9 97) (codes "a") 0 refl,
+  Given.generator 1 (replicate 9 97) (codes "a") 0 refl,
   (
-    Given.generator (replicate 64 97) (codes "a") 0 refl,
+    Given.generator 1 (replicate 64 97) (codes "a") 0 refl,
     (
-      Given.digest (replicate 4097 97) 16 refl,
-      (Given.generator (replicate 10 97) (codes "a") 10000 refl, tt),
+      Given.digest Algorithm.Md5 (replicate 4097 97) 16 refl,
+      (Given.generator 1 (replicate 10 97) (codes "a") 10000 refl, tt),
     ),
   ),
 )
 
 -- 20 to 25: the challenge reader
 challenge-given : Each Given (20 ∷ 21 ∷ 22 ∷ 23 ∷ 24 ∷ 25 ∷ [])
-unfolding codes runOf Digits.numberAfter every plain isCount opening algorithm same tokenAt nextAt countAt seedAt challengeOf
+unfolding codes runOf Digits.numberAfter every plain isCount opening algorithmName same tokenAt nextAt countAt seedAt challengeOf
 challenge-given = (
   Given.challenge (codes "OTP-md5 1 a ") refl,
   (
-    Given.challenge (codes "otp-sha1 1 a ") refl,
+    Given.challenge (codes "otp-md4 1 a ") refl,
     (
       Given.challenge (codes "otp-md5 01 a ") refl,
       (
@@ -107,9 +109,9 @@ writer-given = (Given.hex 0 15 refl, tt)
 abbrev pub eight : List ℕ
 eight = 0 ∷ 1 ∷ 2 ∷ 3 ∷ 4 ∷ 5 ∷ 6 ∷ 7 ∷ []
 
--- Account 1 with the count 2, whose next password is 0.
+-- Account 1, by MD5, with the count 2, whose next password is 0.
 abbrev pub enrolled : Call
-enrolled = Call.Enrol 1 2 (codes "a") (bytesOf (hash (accountOf (turnId s) s .algorithm) (bytesOf 0)))
+enrolled = Call.Enrol 1 1 2 (codes "a") (bytesOf (hash Algorithm.Md5 (bytesOf 0)))
 
 -- Port 0 joins for it, and then replies.
 abbrev pub joins : Call
@@ -122,7 +124,7 @@ abbrev pub wrong : Call
 wrong = Call.Reply 0 (hexOf 1)
 
 abbrev pub thirtyTwo : List Call
-thirtyTwo = map (λ id. Call.Enrol id 2 (codes "a") eight) (upTo 32 (λ k. suc k))
+thirtyTwo = map (λ id. Call.Enrol id 1 2 (codes "a") eight) (upTo 32 (λ k. suc k))
 
 -- 50 to 63: the table
 table-given : Each Given (50 ∷ 51 ∷ 52 ∷ 53 ∷ 54 ∷ 55 ∷ 56 ∷ 57 ∷ 58 ∷ 59 ∷ 60 ∷ 61 ∷ 62 ∷ 63 ∷ [])
@@ -131,13 +133,13 @@ unfolding callNumber codes plain same run enrol enrolChecked remove joinChecked 
     sixteenDigits hexReading every parted unspaced digitsOf Digits.numberAfter hash fold numberAfter md5 registers absorbed
     compressed rounds performed operation round1 round2 round3 round4 blockAt paddedWord paddedByte upTo
 table-given = (
-  Given.call [] (Call.Enrol 0 2 (codes "a") eight) refl,
+  Given.call [] (Call.Enrol 0 1 2 (codes "a") eight) refl,
   (
-    Given.call [] (Call.Enrol 1 1 (codes "a") eight) refl,
+    Given.call [] (Call.Enrol 1 1 1 (codes "a") eight) refl,
     (
       Given.call (enrolled ∷ []) enrolled refl,
       (
-        Given.call thirtyTwo (Call.Enrol 33 2 (codes "a") eight) refl,
+        Given.call thirtyTwo (Call.Enrol 33 1 2 (codes "a") eight) refl,
         (
           Given.call [] (Call.Remove 1) refl,
           (
@@ -156,7 +158,7 @@ table-given = (
                         Given.call (enrolled ∷ joins ∷ []) wrong refl,
                         (
                           Given.call (enrolled ∷ joins ∷ wrong ∷ joins ∷ wrong ∷ joins ∷ []) wrong refl,
-                          (Given.call (enrolled ∷ joins ∷ []) (Call.Renew 0 9 (codes "A") eight (hexOf 0)) refl, tt),
+                          (Given.call (enrolled ∷ joins ∷ []) (Call.Renew 0 1 9 (codes "A") eight (hexOf 0)) refl, tt),
                         ),
                       ),
                     ),
@@ -173,7 +175,7 @@ table-given = (
 
 -- 70: the card writer, for no lines
 card-given : Each Given (70 ∷ [])
-unfolding cardWritten cardChecked codes runOf Digits.numberAfter every plain isCount opening algorithm same tokenAt nextAt countAt seedAt challengeOf
+unfolding cardWritten cardChecked codes runOf Digits.numberAfter every plain isCount opening algorithmName same tokenAt nextAt countAt seedAt challengeOf
 card-given = (Given.card (replicate 10 97) (codes "otp-md5 9 a ") 0 0 refl, tt)
 
 -- All of them, in the order of the list.

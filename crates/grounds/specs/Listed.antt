@@ -10,8 +10,9 @@ use Rattle.refusal.specs.declared.Written.{Written}
 use Rattle.refusal.specs.Numbers.{readingNumbers, writtenNumbers}
 use Rattle.challenge.specs.declared.reading.Challenge.{Challenge}
 use Rattle.text.specs.Put.{writtenOf}
-use Rattle.md5.specs.Digest.{digestOf}
-use Rattle.password.specs.Password.{Algorithm, generated}
+use Rattle.block.specs.Digest.{digestOf}
+use Rattle.password.specs.declared.algorithm.Algorithm.{Algorithm}
+use Rattle.password.specs.Password.{digestBy, generated}
 use Rattle.challenge.specs.Challenges.{challengeOf, challengeNumbers}
 use Rattle.reply.specs.Reply.{readingOf}
 use Rattle.hex.specs.Hex.{hexOf}
@@ -48,8 +49,8 @@ callNumber before c = numbers (answer c (run before fresh)) .0 .0
 -- The number n is the answer of some call: of the generator, the digest, the challenge reader, the reply's reader, the hex writer, the
 -- card writer, or the table.
 pub data Given (n : ℕ) : Type 0 where
-  generator : (phrase seed : List ℕ) (count : ℕ) → readNumber (generated Algorithm.md5 phrase seed count) ≡ n → Given n
-  digest : (m : List ℕ) (room : ℕ) → writtenNumber (digestOf m room) ≡ n → Given n
+  generator : (number : ℕ) (phrase seed : List ℕ) (count : ℕ) → readNumber (generated number phrase seed count) ≡ n → Given n
+  digest : (algorithm : Algorithm) (m : List ℕ) (room : ℕ) → writtenNumber (digestOf (digestBy algorithm) m room) ≡ n → Given n
   challenge : (text : List ℕ) → challengeNumber (challengeOf text) ≡ n → Given n
   reply : (text : List ℕ) → readNumber (readingOf text) ≡ n → Given n
   hex : (p room : ℕ) → writtenNumber (writtenOf room (hexOf p)) ≡ n → Given n

@@ -21,7 +21,7 @@ use Rattle.reached.specs.InTurn.{tickOf, ticks, TurnBegins}
 
 -- An account, and three ports in line for it.
 abbrev pub threeWait : List Call
-threeWait = Call.Enrol 1 2 (97 ∷ []) (0 ∷ 1 ∷ 2 ∷ 3 ∷ 4 ∷ 5 ∷ 6 ∷ 7 ∷ []) ∷ Call.Join 0 1 ∷ Call.Join 1 1 ∷ Call.Join 2 1 ∷ []
+threeWait = Call.Enrol 1 1 2 (97 ∷ []) (0 ∷ 1 ∷ 2 ∷ 3 ∷ 4 ∷ 5 ∷ 6 ∷ 7 ∷ []) ∷ Call.Join 0 1 ∷ Call.Join 1 1 ∷ Call.Join 2 1 ∷ []
 
 -- So many ticks after the fourth has joined, it has the turn.
 unfoldable pub hasTurnAfter : ℕ → Bool

@@ -4,7 +4,7 @@ use mathlib.Core.Path.{_≡_, refl, sym, ap, ap₂, _∙_}
 use mathlib.Core.Bool.{Bool, true, false, false≢true, cond, not, _&&_, _||_, Bool·not-not}
 use mathlib.Core.List.{List, [], _∷_, _++_, map, append-nil}
 use borrow.Author.Tests.{lt-ltb, le-ltb, leb-true, leb-false}
-use lib.Dec.{leb, ltb}
+use lib.Dec.{eqb, leb, ltb}
 use lib.ListN.{length, take, drop}
 use lib.Seq.{append-snoc}
 use Rattle.refusal.specs.declared.Refusal.{Refusal}
@@ -18,10 +18,12 @@ use Rattle.text.specs.Scan.{tokens, unspaced}
 use Rattle.text.specs.Digits.{numberOf}
 use Rattle.text.specs.Put.{writtenOf}
 use Rattle.text.specs.Counts.{isCount}
-use Rattle.digests.specs.Md5.{md5}
-use Rattle.md5.specs.Digest.{digestOf}
+use Rattle.block.specs.Digest.{digestOf}
 use Rattle.password.specs.PhraseAndSeed.{plain, phraseChecked, seedChecked}
-use Rattle.password.specs.Password.{Algorithm, generated}
+use Rattle.password.specs.declared.algorithm.Algorithm.{Algorithm}
+use Rattle.password.specs.declared.algorithm.Named.{Named}
+use Rattle.password.specs.Algorithm.{algorithmNumber, algorithmName, algorithmBy, numbered, named, algorithmChecked}
+use Rattle.password.specs.Password.{generatedBy, generated}
 use Rattle.dictionary.specs.declared.Found.{Found}
 use Rattle.dictionary.specs.Dictionary.{placeOf}
 use Rattle.dictionary.specs.Laws.{found-word}
@@ -33,14 +35,14 @@ use Rattle.reply.specs.Laws.{spelt-token, six-parts}
 use Rattle.challenge.specs.declared.reading.Challenge.{Challenge}
 use Rattle.challenge.specs.Challenges.{
   opening,
-  algorithm,
   tokenAt,
   endOf,
   countAt,
   seedAt,
   terminated,
   challengeOf,
-  challengeText,
+  challengeNumbered,
+  challengeWrittenBy,
   challengeWritten,
 }
 use Rattle.cards.specs.CardChecks.{challengeChecked, countOf, cardChecked}
@@ -54,6 +56,7 @@ use Rattle.grounds.specs.Conditions.{
   Row,
   Exactly,
   phraseRows,
+  algorithmRows,
   seedRows,
   valuesRows,
   roomRows,
@@ -138,28 +141,46 @@ seed-rows seed rest = go (leb 1 (length seed) && leb (length seed) 16) (plain se
 pub seed-exactly : (seed : List ℕ) → Exactly (checkedNumbers (seedChecked seed) .0) (seedRows seed)
 seed-exactly seed = checked-exactly (seedChecked seed) (seedRows seed) (seed-rows seed)
 
-pub values-rows : (count : ℕ) (seed : List ℕ) (present : Room) → Follows (valuesChecked count seed present) (valuesRows count seed present)
+-- The algorithm that a test finds: 21 where it finds neither.
+found-rows : (test : Algorithm → Bool) → Follows (algorithmChecked (algorithmBy test)) ((21, not (test Algorithm.Md5 || test Algorithm.Sha1)) ∷ [])
+unfolding Follows
+found-rows test rest = go (test Algorithm.Md5) (test Algorithm.Sha1)
+  where
+    go : (a b : Bool)
+        → unless listedAs (algorithmChecked (cond a (Named.Is Algorithm.Md5) (cond b (Named.Is Algorithm.Sha1) Named.Unknown))) rest
+        ≡ cond (not (a || b)) 21 rest
+    go true b = refl
+    go false true = refl
+    go false false = refl
+
+pub algorithm-rows : (number : ℕ) → Follows (algorithmChecked (numbered number)) (algorithmRows number)
+algorithm-rows number = found-rows (λ (algorithm : Algorithm). eqb number (algorithmNumber algorithm))
+
+pub values-rows : (number count : ℕ) (seed : List ℕ) (present : Room)
+    → Follows (valuesChecked number count seed present) (valuesRows number count seed present)
 unfolding valuesChecked
-values-rows count seed present =
+values-rows number count seed present =
     then-test (leb 2 count && leb count 9999) _ Refusal.CountOutside _ _ refl
-    (λ a. then-check (seedChecked seed) _ (seedRows seed) _ (seed-rows seed)
-    (λ b. then-test (not (same (map lowerOf seed) (present .seed))) _ Refusal.SeedSame _ _
-    (Bool·not-not (same (map lowerOf seed) (present .seed))) (λ c. no-rows Checked.Good refl)))
+    (λ a. then-check (algorithmChecked (numbered number)) _ (algorithmRows number) _ (algorithm-rows number)
+    (λ b. then-check (seedChecked seed) _ (seedRows seed) _ (seed-rows seed)
+    (λ c. then-test (not (same (map lowerOf seed) (present .seed))) _ Refusal.SeedSame _ _
+    (Bool·not-not (same (map lowerOf seed) (present .seed))) (λ d. no-rows Checked.Good refl))))
 
-pub values-exactly : (count : ℕ) (seed : List ℕ) (present : Room)
-    → Exactly (checkedNumbers (valuesChecked count seed present) .0) (valuesRows count seed present)
-values-exactly count seed present =
-    checked-exactly (valuesChecked count seed present) (valuesRows count seed present) (values-rows count seed present)
+pub values-exactly : (number count : ℕ) (seed : List ℕ) (present : Room)
+    → Exactly (checkedNumbers (valuesChecked number count seed present) .0) (valuesRows number count seed present)
+values-exactly number count seed present =
+    checked-exactly (valuesChecked number count seed present) (valuesRows number count seed present) (values-rows number count seed present)
 
-pub generator-exactly : (phrase seed : List ℕ) (count : ℕ)
-    → Exactly (readNumber (generated Algorithm.md5 phrase seed count)) (phraseRows phrase ++ seedRows seed ++ (13, ltb 9999 count) ∷ [])
-unfolding generated
-generator-exactly phrase seed count =
+pub generator-exactly : (number : ℕ) (phrase seed : List ℕ) (count : ℕ)
+    → Exactly (readNumber (generated number phrase seed count)) (algorithmRows number ++ phraseRows phrase ++ seedRows seed ++ (13, ltb 9999 count) ∷ [])
+unfolding generated generatedBy
+generator-exactly number phrase seed count =
     let next = behind readChecked Reading.Refused (λ why. refl) in
-    read-exactly (generated Algorithm.md5 phrase seed count) _
-    (next (phraseChecked phrase) _ (phraseRows phrase) _ (phrase-rows phrase)
-    (λ a. next (seedChecked seed) _ (seedRows seed) _ (seed-rows seed)
-    (λ b. otherwise readChecked Reading.Refused (λ why. refl) (ltb 9999 count) Refusal.CountHigh _ [] (no-rows Checked.Good refl))))
+    read-exactly (generated number phrase seed count) _
+    (next (algorithmChecked (numbered number)) _ (algorithmRows number) _ (algorithm-rows number)
+    (λ a. next (phraseChecked phrase) _ (phraseRows phrase) _ (phrase-rows phrase)
+    (λ b. next (seedChecked seed) _ (seedRows seed) _ (seed-rows seed)
+    (λ c. otherwise readChecked Reading.Refused (λ why. refl) (ltb 9999 count) Refusal.CountHigh _ [] (no-rows Checked.Good refl)))))
 
 -- ---- writers
 
@@ -179,40 +200,43 @@ room-rows room text rest = go (leb (length text) room) ∙ ap (λ (b : Bool). co
 pub writer-exactly : (room : ℕ) (text : List ℕ) → Exactly (writtenNumber (writtenOf room text)) (roomRows room text)
 writer-exactly room text = written-exactly (writtenOf room text) (roomRows room text) (room-rows room text)
 
-pub digest-exactly : (m : List ℕ) (room : ℕ)
-    → Exactly (writtenNumber (digestOf m room)) ((12, ltb 4096 (length m)) ∷ roomRows room (md5 m))
-digest-exactly m room =
-    written-exactly (digestOf m room) _
-    (otherwise writtenChecked Written.Refused (λ why. refl) (ltb 4096 (length m)) Refusal.InputLong _ _ (room-rows room (md5 m)))
+pub digest-exactly : (digest : List ℕ → List ℕ) (m : List ℕ) (room : ℕ)
+    → Exactly (writtenNumber (digestOf digest m room)) ((12, ltb 4096 (length m)) ∷ roomRows room (digest m))
+digest-exactly digest m room =
+    written-exactly (digestOf digest m room) _
+    (otherwise writtenChecked Written.Refused (λ why. refl) (ltb 4096 (length m)) Refusal.InputLong _ _ (room-rows room (digest m)))
 
-pub challenge-writer-exactly : (seed : List ℕ) (count room : ℕ)
-    → Exactly (writtenNumber (challengeWritten seed count room))
-    (seedRows seed ++ (13, ltb 9999 count) ∷ roomRows room (challengeText seed count))
-unfolding challengeWritten
-challenge-writer-exactly seed count room =
-    written-exactly (challengeWritten seed count room) _
-    (behind writtenChecked Written.Refused (λ why. refl) (seedChecked seed) _ (seedRows seed) _ (seed-rows seed)
-    (λ a. otherwise writtenChecked Written.Refused (λ why. refl) (ltb 9999 count) Refusal.CountHigh _ _
-    (room-rows room (challengeText seed count))))
+pub challenge-writer-exactly : (number : ℕ) (seed : List ℕ) (count room : ℕ)
+    → Exactly (writtenNumber (challengeWritten number seed count room))
+    (algorithmRows number ++ seedRows seed ++ (13, ltb 9999 count) ∷ roomRows room (challengeNumbered number seed count))
+unfolding challengeWritten challengeWrittenBy
+challenge-writer-exactly number seed count room =
+    let next = behind writtenChecked Written.Refused (λ why. refl) in
+    written-exactly (challengeWritten number seed count room) _
+    (next (algorithmChecked (numbered number)) _ (algorithmRows number) _ (algorithm-rows number)
+    (λ a. next (seedChecked seed) _ (seedRows seed) _ (seed-rows seed)
+    (λ b. otherwise writtenChecked Written.Refused (λ why. refl) (ltb 9999 count) Refusal.CountHigh _ _
+    (room-rows room (challengeNumbered number seed count)))))
 
 -- ---- a challenge, and the card
 
 challenge-rows : (text : List ℕ) → Follows (challengeChecked (challengeOf text)) (challengeRows text)
-unfolding challengeOf
+unfolding challengeOf algorithmName
 challenge-rows text =
     let step = behind-test challengeChecked Challenge.Refused (λ why. refl) in
+    let check = behind challengeChecked Challenge.Refused (λ why. refl) in
     let seed = tokenAt text (seedAt text) in
     step (same (take 4 text) opening) _ Refusal.OpeningWrong _ _ refl
-    (λ a. step (same (tokenAt text 4) algorithm) _ Refusal.AlgorithmUnknown _ _ refl
+    (λ a. check (algorithmChecked (named (tokenAt text 4))) _ _ _ (found-rows (λ (algorithm : Algorithm). same (tokenAt text 4) (algorithmName algorithm)))
     (λ b. step (isCount (tokenAt text (countAt text))) _ Refusal.CountUnread _ _ refl
-    (λ c. behind challengeChecked Challenge.Refused (λ why. refl) (seedChecked seed) _ (seedRows seed) _ (seed-rows seed)
+    (λ c. check (seedChecked seed) _ (seedRows seed) _ (seed-rows seed)
     (λ d. step (terminated (drop (endOf text (seedAt text)) text)) _ Refusal.SeedUnended _ _ refl (λ e. no-rows Checked.Good refl)))))
 
 pub challenge-exactly : (text : List ℕ) → Exactly (challengeNumber (challengeOf text)) (challengeRows text)
 challenge-exactly text = go (challengeOf text) (challenge-rows text)
   where
     go : (c : Challenge) → Follows (challengeChecked c) (challengeRows text) → Exactly (challengeNumber c) (challengeRows text)
-    go (Challenge.Read count start len used) f = exactly Checked.Good (challengeRows text) f 0 refl
+    go (Challenge.Read algorithm count start len used) f = exactly Checked.Good (challengeRows text) f 0 refl
     go (Challenge.Refused why) f = exactly (Checked.Refused why) (challengeRows text) f (listedAs why) refl
 
 -- "card lines not 1 to 99 or more than the count"

@@ -16,7 +16,8 @@ use Rattle.refusal.specs.Each.{each-get}
 use Rattle.refusal.specs.Laws.{must-true}
 use Rattle.text.specs.Tests.{cases}
 use Rattle.password.specs.PhraseAndSeed.{seedChecked}
-use Rattle.password.specs.Password.{Algorithm, bytesOf, hash}
+use Rattle.password.specs.Algorithm.{numbered, algorithmChecked}
+use Rattle.password.specs.Password.{bytesOf, hash}
 use Rattle.challenge.specs.Challenges.{challengeWritten}
 use Rattle.reply.specs.Reply.{readingOf}
 use Rattle.line.specs.Line.{standsIn}
@@ -35,9 +36,9 @@ use Rattle.reached.specs.Made.{Made, PortGood}
 use Rattle.reached.specs.Equal.{times, accountsIn}
 use Rattle.reached.specs.RoomsFound.{holds-times, accounts-free}
 use Rattle.reached.specs.Outcome.{turn-good}
-use Rattle.grounds.specs.Conditions.{Row, Exactly, seedRows, valuesRows, replyRows, turnRows, said, isThird, wrongRows, conditionsOf}
+use Rattle.grounds.specs.Conditions.{Row, Exactly, algorithmRows, seedRows, valuesRows, replyRows, turnRows, said, isThird, wrongRows, conditionsOf}
 use Rattle.grounds.specs.Exactly.{listedAs, Follows, no-rows, behind, behind-test, then-check, then-test}
-use Rattle.grounds.specs.Refusing.{answerChecked, answer-exactly, readChecked, writtenChecked, seed-rows, values-rows, not-leb, room-rows, reply-rows}
+use Rattle.grounds.specs.Refusing.{answerChecked, answer-exactly, readChecked, writtenChecked, algorithm-rows, seed-rows, values-rows, not-leb, room-rows, reply-rows}
 use Rattle.grounds.specs.Keeps.{account-good}
 use Rattle.grounds.specs.Owned.{turn-there}
 use Rattle.grounds.specs.Answering.{kept-seed, seed-checked}
@@ -89,9 +90,10 @@ enrol-rows id number count seed password s m =
     behind settledChecked (refused s) (λ why. refl) _ _ (conditionsOf (Call.Enrol id number count seed password) s) []
     (then-test (not (eqb id 0)) _ Refusal.IdZero _ _ (Bool·not-not (eqb id 0))
     (λ a. then-test (leb 2 count && leb count 9999) _ Refusal.CountOutside _ _ refl
-    (λ b. then-check (seedChecked seed) _ (seedRows seed) _ (seed-rows seed)
-    (λ c. then-test (not (isThere id s)) _ Refusal.IdTaken _ _ (Bool·not-not (isThere id s))
-    (λ d. then-test (holds 0 (s .rooms)) _ Refusal.TableFull _ _ (full (s .rooms) (m .room-count)) (λ e. no-rows Checked.Good refl))))))
+    (λ b. then-check (algorithmChecked (numbered number)) _ (algorithmRows number) _ (algorithm-rows number)
+    (λ c. then-check (seedChecked seed) _ (seedRows seed) _ (seed-rows seed)
+    (λ d. then-test (not (isThere id s)) _ Refusal.IdTaken _ _ (Bool·not-not (isThere id s))
+    (λ e. then-test (holds 0 (s .rooms)) _ Refusal.TableFull _ _ (full (s .rooms) (m .room-count)) (λ f. no-rows Checked.Good refl)))))))
     (λ e. no-rows Checked.Good refl)
 
 remove-rows : (id : ℕ) (s : State) → Follows (settledChecked (Steps.remove id s)) (conditionsOf (Call.Remove id) s)
@@ -185,11 +187,11 @@ renew-rows : (port number count : ℕ) (seed new text : List ℕ) (s : State) �
     → Follows (repliedChecked (Steps.renew port number count seed new text s)) (conditionsOf (Call.Renew port number count seed new text) s)
 unfolding Steps.renew Steps.renewRead renewChecked valuesChecked
 renew-rows port number count seed new text s m =
-    let values = valuesRows count seed (accountOf (turnId s) s) in
+    let values = valuesRows number count seed (accountOf (turnId s) s) in
     behind repliedChecked (replyRefused s) (λ why. refl) (renewChecked port number count seed s) _ (turnRows port s ++ values) _
-    (then-check (turnChecked port s) _ (turnRows port s) values (turn-rows port s m) (λ a. values-rows count seed (accountOf (turnId s) s)))
+    (then-check (turnChecked port s) _ (turnRows port s) values (turn-rows port s m) (λ a. values-rows number count seed (accountOf (turnId s) s)))
     (λ e. read-rows s (readingOf text) _ (replyRows text) _ (reply-rows text)
-    (offered-rows port text (newRoom (accountOf (turnId s) s .id) count seed new) s m))
+    (offered-rows port text (newRoom (accountOf (turnId s) s .id) number count seed new) s m))
 
 -- ---- each call
 

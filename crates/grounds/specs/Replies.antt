@@ -1,4 +1,4 @@
--- What an accepted reply does, and which replies are accepted.
+-- What an accepted reply and an accepted renewal do, and which replies are accepted.
 use Prim.Native.Nat.{ℕ, _+_, _-_, _≤_, _<_}
 use native.Mathlib.Omega.{arith}
 use mathlib.Core.Path.{_≡_, refl, sym, ap, _∙_, subst}
@@ -10,16 +10,17 @@ use Rattle.refusal.specs.declared.Refusal.{Refusal}
 use Rattle.refusal.specs.declared.Checked.{Checked}
 use Rattle.refusal.specs.declared.Reading.{Reading}
 use Rattle.refusal.specs.Checks.{unless}
-use Rattle.password.specs.Password.{Algorithm, bytesOf, hash}
+use Rattle.password.specs.Password.{bytesOf, hash}
 use Rattle.reply.specs.Reply.{readingOf}
 use Rattle.line.specs.Line.{standsIn}
 use Rattle.table.specs.declared.Replied.{Replied}
 use Rattle.accounts.specs.Rooms.{Room}
 use Rattle.table.specs.Table.{State, isThere, accountOf, hasTurn, turnId}
 use Rattle.table.specs.Steps as Steps
-use Rattle.accounts.specs.Accounts.{lowered}
-use Rattle.table.specs.Steps.{replyRefused, turnChecked, offered, read, replyRead, reply}
-use Rattle.reached.specs.Day.{SteppedDown}
+use Rattle.accounts.specs.Accounts.{newRoom, lowered}
+use Rattle.table.specs.Steps.{replyRefused, turnChecked, offered, read, replyRead, reply, renewChecked, renewRead, renew}
+use Rattle.table.specs.StepLaws.{renew-passed}
+use Rattle.reached.specs.Day.{SteppedDown, Renewed}
 use Rattle.reached.specs.RoomsChanged.{there-parts, same-changed}
 use Rattle.reached.specs.Outcome.{TurnGood, turn-good, turn-holder}
 
@@ -30,53 +31,87 @@ pub accepted-account : (p : ℕ) (next : Room) (s : State) → TurnGood p s → 
     → accountOf (turnId s) (Steps.accepted p next s .state) ≡ next
 accepted-account p next s g e = same-changed (turnId s) (s .rooms) next e (there-parts (turnId s) (s .rooms) (g .there) .1)
 
--- What a reply that was accepted was: a password whose hash is the one stored.
-pub record ReplyTaken (p count : ℕ) (s : State) (state : State) : Type 0 where
+-- What was presented and accepted with the answer `count`: a password whose hash, by the account's algorithm, is the one stored. The account
+-- becomes what `next` makes of it.
+pub record Taken (p count : ℕ) (next : ℕ → Room) (s state : State) : Type 0 where
   pub taken : ℕ
   pub turn : TurnGood p s
   pub hashed : hash (accountOf (turnId s) s .algorithm) (bytesOf taken) ≡ accountOf (turnId s) s .password
-  pub answered : count ≡ accountOf (turnId s) s .count - 1
-  pub left : state ≡ Steps.accepted p (lowered (accountOf (turnId s) s) taken) s .state
+  pub answered : count ≡ next taken .count
+  pub left : state ≡ Steps.accepted p (next taken) s .state
 
 not-accepted : {A : Type 0} (why : Refusal) (n : ℕ) → Replied.Refused why ≡ Replied.Accepted n → A
 not-accepted why n e = let z : _≡_ {A = ℕ} 0 1 = cc in absurd (omega arith)
 
-pub reply-taken : (p n : ℕ) (text : List ℕ) (s : State) → reply p text s .answer ≡ Replied.Accepted n → ReplyTaken p n s (reply p text s .state)
-unfolding reply replyRead offered
-reply-taken p n text s e = go (turnChecked p s) refl (readingOf text) e
-  where
-    test : (w : ℕ) (t : Bool) → TurnGood p s → eqb (hash (accountOf (turnId s) s .algorithm) (bytesOf w)) (accountOf (turnId s) s .password) ≡ t
-        → cond t (Steps.accepted p (lowered (accountOf (turnId s) s) w) s) (Steps.rejected p s) .answer ≡ Replied.Accepted n
-        → ReplyTaken p n s (cond t (Steps.accepted p (lowered (accountOf (turnId s) s) w) s) (Steps.rejected p s) .state)
-    test w true g f e =
-        record {
-          taken = w;
-          turn = g;
-          hashed = eqb-true (hash (accountOf (turnId s) s .algorithm) (bytesOf w)) (accountOf (turnId s) s .password) f;
-          answered = cc;
-          left = refl;
-        }
-    test w false g f e = not-accepted _ n e
+module _ (p n : ℕ) (next : ℕ → Room) (s : State) where
+  offered-taken : TurnGood p s → (w : ℕ) → offered p w (next w) s .answer ≡ Replied.Accepted n → Taken p n next s (offered p w (next w) s .state)
+  unfolding offered
+  offered-taken g w e = test (eqb (hash (accountOf (turnId s) s .algorithm) (bytesOf w)) (accountOf (turnId s) s .password)) refl e
+    where
+      test : (t : Bool) → eqb (hash (accountOf (turnId s) s .algorithm) (bytesOf w)) (accountOf (turnId s) s .password) ≡ t
+          → cond t (Steps.accepted p (next w) s) (Steps.rejected p s) .answer ≡ Replied.Accepted n
+          → Taken p n next s (cond t (Steps.accepted p (next w) s) (Steps.rejected p s) .state)
+      test true f e =
+          record {
+            taken = w;
+            turn = g;
+            hashed = eqb-true (hash (accountOf (turnId s) s .algorithm) (bytesOf w)) (accountOf (turnId s) s .password) f;
+            answered = cc;
+            left = refl;
+          }
+      test false f e = not-accepted _ n e
 
-    go : (k : Checked) → turnChecked p s ≡ k → (r : Reading)
-        → unless (replyRefused s) k (read s r (λ w. offered p w (lowered (accountOf (turnId s) s) w) s)) .answer ≡ Replied.Accepted n
-        → ReplyTaken p n s (unless (replyRefused s) k (read s r (λ w. offered p w (lowered (accountOf (turnId s) s) w) s)) .state)
-    go (Checked.Refused why) k r e = not-accepted why n e
-    go Checked.Good k (Reading.Refused why) e = not-accepted why n e
-    go Checked.Good k (Reading.Password w) e =
-        test w (eqb (hash (accountOf (turnId s) s .algorithm) (bytesOf w)) (accountOf (turnId s) s .password)) (turn-good p s k) refl e
+  -- Behind a check that finds the turn good, of what a text was read as.
+  checked-taken : (k : Checked) → (k ≡ Checked.Good → TurnGood p s) → (r : Reading)
+      → unless (replyRefused s) k (read s r (λ w. offered p w (next w) s)) .answer ≡ Replied.Accepted n
+      → Taken p n next s (unless (replyRefused s) k (read s r (λ w. offered p w (next w) s)) .state)
+  checked-taken (Checked.Refused why) g r e = not-accepted why n e
+  checked-taken Checked.Good g (Reading.Refused why) e = not-accepted why n e
+  checked-taken Checked.Good g (Reading.Password w) e = offered-taken (g refl) w e
 
-pub taken-steps-down : (p n : ℕ) (s state : State) → ReplyTaken p n s state
+  -- The account is then the next one.
+  taken-account : (state : State) (r : Taken p n next s state) → next (r .taken) .id ≡ accountOf (turnId s) s .id
+      → accountOf (turnId s) state ≡ next (r .taken)
+  taken-account state r same =
+      ap (λ (u : State). accountOf (turnId s) u) (r .left)
+      ∙ accepted-account p (next (r .taken)) s (r .turn) (same ∙ turn-holder p s (r .turn))
+
+pub reply-taken : (p n : ℕ) (text : List ℕ) (s : State) → reply p text s .answer ≡ Replied.Accepted n
+    → Taken p n (lowered (accountOf (turnId s) s)) s (reply p text s .state)
+unfolding reply replyRead
+reply-taken p n text s e = checked-taken p n (lowered (accountOf (turnId s) s)) s (turnChecked p s) (turn-good p s) (readingOf text) e
+
+pub taken-steps-down : (p n : ℕ) (s state : State) → Taken p n (lowered (accountOf (turnId s) s)) s state
     → (n ≡ accountOf (turnId s) state .count) × SteppedDown (accountOf (turnId s) s) (accountOf (turnId s) state)
 taken-steps-down p n s state r =
     let old = accountOf (turnId s) s in
     let next = lowered old (r .taken) in
-    let new : accountOf (turnId s) state ≡ next =
-    ap (λ (u : State). accountOf (turnId s) u) (r .left) ∙ accepted-account p next s (r .turn) (turn-holder p s (r .turn)) in
     let unused = r .turn .unused in
     let down : next .count + 1 ≡ old .count = omega arith in
-    subst (λ (room : Room). (n ≡ room .count) × SteppedDown old room) (sym new)
-    (r .answered, record { same-id = refl; same-seed = refl; count-lower = down; old-is-hash = sym (r .hashed) })
+    subst (λ (room : Room). (n ≡ room .count) × SteppedDown old room) (sym (taken-account p n (lowered old) s state r refl))
+    (r .answered, record { same-id = refl; same-algorithm = refl; same-seed = refl; count-lower = down; old-is-hash = sym (r .hashed) })
+
+-- ---- a renewal
+
+module _ (p n number count : ℕ) (seed new text : List ℕ) (s : State) (e : renew p number count seed new text s .answer ≡ Replied.Accepted n) where
+  -- The account that it makes, whatever was presented.
+  abbrev next : ℕ → Room
+  next w = newRoom (accountOf (turnId s) s .id) number count seed new
+
+  taken-renewal : Taken p n next s (renew p number count seed new text s .state)
+  unfolding renew renewRead
+  taken-renewal =
+      checked-taken p n next s (renewChecked p number count seed s) (λ k. turn-good p s (renew-passed p number count seed s k .turn)) (readingOf text) e
+
+  pub taken-renews : (n ≡ count) × Renewed number count seed new (accountOf (turnId s) s) (accountOf (turnId s) (renew p number count seed new text s .state))
+  taken-renews = (
+    taken-renewal .answered,
+    record {
+      becomes = taken-account p n next s (renew p number count seed new text s .state) taken-renewal refl;
+      presented = taken-renewal .taken;
+      old-is-hash = sym (taken-renewal .hashed);
+    },
+  )
 
 -- ---- a reply that is accepted
 

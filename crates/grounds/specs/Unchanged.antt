@@ -15,7 +15,7 @@ use Rattle.refusal.specs.Checks.{unless}
 use Rattle.text.specs.Tests.{every, both}
 use Rattle.text.specs.Digits.{numberOf}
 use Rattle.text.specs.Scan.{tokens, unspaced}
-use Rattle.password.specs.Password.{Algorithm, bytesOf, hash}
+use Rattle.password.specs.Password.{bytesOf, hash}
 use Rattle.dictionary.specs.declared.Found.{Found}
 use Rattle.dictionary.specs.Dictionary.{placeOf}
 use Rattle.sixwords.specs.declared.Number.{Number}

@@ -16,7 +16,7 @@ use Rattle.refusal.specs.Checks.{unless, inOrder}
 use Rattle.text.specs.Kinds.{lowerOf}
 use Rattle.text.specs.Tests.{every, same}
 use Rattle.password.specs.PhraseAndSeed.{seedChecked}
-use Rattle.password.specs.Password.{Algorithm, bytesOf, hash}
+use Rattle.password.specs.Password.{bytesOf, hash}
 use Rattle.challenge.specs.Challenges.{challengeText, challengeWritten}
 use Rattle.reply.specs.Reply.{readingOf}
 use Rattle.line.specs.Line.{standsIn}

@@ -1,6 +1,5 @@
--- What the digest function answers, helper definitions and laws; MD5 itself is defined in `digests`.
+-- Helper definitions and laws; MD5 itself is defined in `digests`.
 pub mod Inside
 pub mod Laws
 pub mod SumLaws
 pub mod Sums
-pub mod Digest

@@ -8,7 +8,8 @@ use lib.ListN.{getD}
 use Rattle.digests.specs.Lists.{upTo}
 use Rattle.digests.specs.declared.State.{State}
 use Rattle.md5.specs.declared.rounds.operations.Four.{Four}
-use Rattle.digests.specs.Rounds.{add, rotated, Round, round1, round2, round3, round4, increased}
+use Rattle.digests.specs.Words.{add, rotated}
+use Rattle.digests.specs.Rounds.{Round, round1, round2, round3, round4, increased}
 
 -- The rounds by their numbers, 1 to 4.
 unfoldable pub roundOf : ℕ → Round

@@ -4,6 +4,8 @@ ghost use mathlib.Core.List.{_++_};
 ghost use Prim.Native.Nat.{_≤_};
 ghost use lib.ListN.{length};
 ghost use Rattle.digests.specs.Rounds.{compressed};
+ghost use Rattle.digests.specs.declared.Order.{Order};
+ghost use Rattle.digests.specs.Words.{bytes4};
 ghost use Rattle.digests.specs.Md5 as spec;
 use crate::rounds::mixed;
 use crate::sums::CONSTANTS_1;
@@ -15,6 +17,7 @@ use crate::sums::ORDER_2;
 use crate::sums::ORDER_3;
 use crate::sums::ORDER_4;
 use crate::sums::sums;
+use digests::Order;
 use digests::State;
 
 // The registers after the block w.
@@ -33,7 +36,7 @@ fn compress(w: [u32; 16], q: State) -> State
 // The registers after a message of eight bytes, given as two words. Its one block ends with the length,
 // 64 bits, and most of the sums are constants here.
 pub fn compress_eight(first: u32, second: u32) -> State
-    ensures { λ r. ⌜ r ≡ spec.registers (spec.bytes4 first ++ spec.bytes4 second) ⌝ }
+    ensures { λ r. ⌜ r ≡ spec.registers (bytes4 Order.Little first ++ bytes4 Order.Little second) ⌝ }
 {
     let w = [first, second, 128, 0, 0, 0, 0, 0, 0, 0, 0, 0, 0, 0, 64, 0];
     let q = State {
@@ -65,7 +68,7 @@ pub fn registers(m: &[u8]) -> State
     let n = block::count(m);
     let mut j = 0;
     while j < n {
-        q = compress(block::block(m, j), q);
+        q = compress(block::block(Order::Little, m, j), q);
         j += 1;
     }
     q

@@ -1,4 +1,4 @@
--- The words of the day of one password: a reply that steps an account down, a reply that is accepted, the way from the challenge to it,
+-- The words of the day of one password: a reply that steps an account down, a renewal, a reply that is accepted, the way from the challenge to it,
 -- and a wrong reply.
 use Prim.Native.Nat.{ℕ, _+_}
 use mathlib.Core.Path.{_≡_}
@@ -19,6 +19,7 @@ use Rattle.line.specs.Line as Line
 use Rattle.port.specs.Port.{wrongly, wrongAnswer}
 use Rattle.table.specs.declared.Replied.{Replied}
 use Rattle.accounts.specs.Rooms.{Room}
+use Rattle.accounts.specs.Accounts.{newRoom}
 use Rattle.table.specs.Table.{State, accountOf, portOf}
 use Rattle.table.specs.Steps.{challengeFor, challenge, reply}
 use Rattle.reached.specs.Calls.{Call, after}
@@ -31,6 +32,17 @@ pub record SteppedDown (old new : Room) : Type 0 where
   pub same-seed : new .seed ≡ old .seed
   pub count-lower : new .count + 1 ≡ old .count
   pub old-is-hash : old .password ≡ hash (old .algorithm) (bytesOf (new .password))
+
+-- The account after an accepted renewal, beside the one before: the same id, with the new algorithm, count, seed and password. The password that
+-- was presented has the stored one as its hash, by the algorithm that the account had.
+pub record Renewed (number count : ℕ) (seed new : List ℕ) (old room : Room) : Type 0 where
+  pub becomes : room ≡ newRoom (old .id) number count seed new
+  pub presented : ℕ
+  pub old-is-hash : old .password ≡ hash (old .algorithm) (bytesOf presented)
+
+-- What a pass-phrase gives at a count, with the account's own algorithm and seed.
+abbrev pub passwordOf : List ℕ → Room → ℕ → ℕ
+passwordOf phrase room count = password (room .algorithm) phrase (room .seed) count
 
 -- The port's reply with this text is accepted: the answer is that count, and the account i has it then, with that password and its
 -- algorithm and seed as before.
@@ -62,7 +74,7 @@ pub record Day (p i : ℕ) (phrase buffer : List ℕ) (s t : State) : Type 0 whe
       ≡ Reading.Password generated-as
   pub algorithm-own : algorithm ≡ accountOf i s .algorithm
   pub count-less : count + 1 ≡ accountOf i s .count
-  pub generated-is : generated-as ≡ password algorithm phrase (accountOf i s .seed) count
+  pub generated-is : generated-as ≡ passwordOf phrase (accountOf i s) count
   pub hex-accepted : Accepts p i (hexOf generated-as) count generated-as t
   pub words-accepted : Accepts p i (wordsOf generated-as) count generated-as t
 

@@ -1,16 +1,16 @@
 -- `message_block` meets its promise: the words before k are the block's.
 use Prim.Native.Nat.{ℕ, _+_, _*_, _-_}
 use borrow.Author.Needs.{needs}
-use Rattle.digests.specs.Padding.{little, paddedWord, blockAt}
+use Rattle.digests.specs.Padding.{paddedWord, blockAt}
 use Rattle.digests.specs.Lists.{Filling, filling-starts, filling-goes-on, filling-ends}
 use Rattle.block.proofs.message_block.Statement.{statement}
 use Rattle.block.proofs.message_block.Tie as tie
 
 abbrev Inv-loop : tie.InvT-loop
-Inv-loop m j w₀ k₀ w k = Filling w 16 k (λ (i : ℕ). paddedWord little m (16 * j + i))
+Inv-loop order m j w₀ k₀ w k = Filling w 16 k (λ (i : ℕ). paddedWord order m (16 * j + i))
 
 abbrev μ-loop : tie.MeasureT-loop
-μ-loop m j w₀ k₀ w k = 16 - k
+μ-loop order m j w₀ k₀ w k = 16 - k
 
 returns : tie.Need-returns Inv-loop μ-loop
 unfolding blockAt

@@ -1,7 +1,8 @@
 -- `padded_word` meets its promise: the four bytes are the padded message's.
 use borrow.Author.Needs.{needs}
 use mathlib.Core.Path.{_∙_}
-use Rattle.digests.specs.Padding.{little, word, paddedWord}
+use Rattle.digests.specs.Words.{word}
+use Rattle.digests.specs.Padding.{paddedWord}
 use Rattle.block.proofs.padded_word.Statement.{statement}
 use Rattle.block.proofs.padded_word.Tie as tie
 
@@ -9,7 +10,7 @@ returns : tie.Need-returns
 unfolding paddedWord
 returns c =
     c .joined .ensures
-    ∙ (λ i. word little (c .before .before .before .before .byte .ensures i) (c .before .before .before .byte2 .ensures i)
+    ∙ (λ i. word (c .before .before .before .before .before .before .args .order) (c .before .before .before .before .byte .ensures i) (c .before .before .before .byte2 .ensures i)
     (c .before .before .byte3 .ensures i) (c .before .byte4 .ensures i))
 
 pub padded-word-spec : {M : Type 1} → statement M

@@ -7,15 +7,17 @@ use borrow.Rule.Slice.PartMut.{midOf, putMid}
 use Rattle.text.specs.Put.{Put}
 use Rattle.text.specs.PutLaws.{then-put}
 use Rattle.digests.specs.declared.State.{State}
-use Rattle.digests.specs.Md5.{bytes4, registers, md5}
+use Rattle.digests.specs.declared.Order.{Order}
+use Rattle.digests.specs.Words.{bytes4}
+use Rattle.digests.specs.Md5.{registers, md5}
 
 pub digest-put : (m : List ℕ) (q : State) (b b₁ ys : List ℕ) (n k : ℕ) → q ≡ registers m
-    → Put (bytes4 (q .a) ++ bytes4 (q .b)) b b₁ n
-    → Put (bytes4 (q .c) ++ bytes4 (q .d)) (midOf n (length b₁ - n) b₁) ys k
+    → Put (bytes4 Order.Little (q .a) ++ bytes4 Order.Little (q .b)) b b₁ n
+    → Put (bytes4 Order.Little (q .c) ++ bytes4 Order.Little (q .d)) (midOf n (length b₁ - n) b₁) ys k
     → Put (md5 m) b (putMid n (length b₁ - n) b₁ ys) (n + k)
 unfolding md5
 digest-put m q b b₁ ys n k e first second =
     subst
-    (λ (p : State). Put (bytes4 (p .a) ++ bytes4 (p .b) ++ bytes4 (p .c) ++ bytes4 (p .d)) b (putMid n (length b₁ - n) b₁ ys) (n + k))
+    (λ (p : State). Put (bytes4 Order.Little (p .a) ++ bytes4 Order.Little (p .b) ++ bytes4 Order.Little (p .c) ++ bytes4 Order.Little (p .d)) b (putMid n (length b₁ - n) b₁ ys) (n + k))
     e
-    (then-put (bytes4 (q .a) ++ bytes4 (q .b)) (bytes4 (q .c) ++ bytes4 (q .d)) b b₁ ys n k first second)
+    (then-put (bytes4 Order.Little (q .a) ++ bytes4 Order.Little (q .b)) (bytes4 Order.Little (q .c) ++ bytes4 Order.Little (q .d)) b b₁ ys n k first second)

@@ -7,8 +7,10 @@ use Rattle.digests.specs.Lists.{upTo}
 use Rattle.digests.specs.Padding.{paddedByte, paddedWord, blockAt, absorbed}
 use Rattle.digests.specs.Rounds.{round1, round2, round3, round4, compressed}
 use Rattle.md5.specs.SumLaws.{compressed-by-sums}
-use Rattle.digests.specs.Md5.{bytes4, initial, registers}
-use Rattle.md5.specs.Laws.{word-bytes4}
+use Rattle.digests.specs.declared.Order.{Order}
+use Rattle.digests.specs.Words.{bytes4}
+use Rattle.digests.specs.Md5.{initial, registers}
+use Rattle.block.specs.WordLaws.{word-bytes4}
 use Rattle.md5.proofs.compress.compress_eight.Statement.{statement}
 use Rattle.md5.proofs.compress.compress_eight.Tie as tie
 
@@ -17,10 +19,10 @@ abbrev blockOf : ℕ → ℕ → List ℕ
 blockOf x y = x ∷ y ∷ 128 ∷ 0 ∷ 0 ∷ 0 ∷ 0 ∷ 0 ∷ 0 ∷ 0 ∷ 0 ∷ 0 ∷ 0 ∷ 0 ∷ 64 ∷ 0 ∷ []
 
 registers-eight : (x y : ℕ) → x < 2 ^ 32 → y < 2 ^ 32
-    → compressed (blockOf x y) initial ≡ registers (bytes4 x ++ bytes4 y)
+    → compressed (blockOf x y) initial ≡ registers (bytes4 Order.Little x ++ bytes4 Order.Little y)
 unfolding registers absorbed blockAt paddedWord paddedByte upTo
 registers-eight x y h g =
-    ap₂ (λ (u v : ℕ). compressed (blockOf u v) initial) (sym (word-bytes4 x h)) (sym (word-bytes4 y g))
+    ap₂ (λ (u v : ℕ). compressed (blockOf u v) initial) (sym (word-bytes4 Order.Little x h)) (sym (word-bytes4 Order.Little y g))
 
 returns : tie.Need-returns
 unfolding round1 round2 round3 round4

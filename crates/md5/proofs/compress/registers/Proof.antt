@@ -5,14 +5,15 @@ use borrow.Author.Needs.{needs}
 use native.Mathlib.Omega.{arith}
 use native.Mathlib.Numerals.{add-one}
 use lib.ListN.{length}
-use Rattle.digests.specs.Padding.{little, blocks, absorbed}
+use Rattle.digests.specs.declared.Order.{Order}
+use Rattle.digests.specs.Padding.{blocks, absorbed}
 use Rattle.digests.specs.Rounds.{compressed}
 use Rattle.digests.specs.Md5.{initial, registers}
 use Rattle.md5.proofs.compress.registers.Statement.{statement}
 use Rattle.md5.proofs.compress.registers.Tie as tie
 
 abbrev Inv-loop : tie.InvT-loop
-Inv-loop m q₀ n j₀ q j = (j ≤ n) × (q ≡ absorbed little compressed initial m j)
+Inv-loop m q₀ n j₀ q j = (j ≤ n) × (q ≡ absorbed Order.Little compressed initial m j)
 
 abbrev μ-loop : tie.MeasureT-loop
 μ-loop m q₀ n j₀ q j = n - j
@@ -33,7 +34,7 @@ unfolding registers
 returns c =
     let m = c .before .before .before .before .args .m .now in
     let all : c .before .loop .j ≡ blocks (length m) = omega (arith, c .before .before .count .ensures) in
-    c .before .loop .inv .1 ∙ ap (absorbed little compressed initial m) all
+    c .before .loop .inv .1 ∙ ap (absorbed Order.Little compressed initial m) all
 
 pub registers-spec : {M : Type 1} → statement M
 registers-spec =

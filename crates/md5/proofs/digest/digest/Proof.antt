@@ -13,7 +13,7 @@ returns-3 c =
     let known = c .before .before .before .before .before .before in
     let start = known .before .before .before .before .before .before .before in
     let put = digest-put (start .args .m .now) _ _ _ _ _ _ (known .before .before .registers .ensures)
-    (known .put8 .ensures) (c .before .before .put82 .ensures) in (
+    (known .two-words .ensures) (c .before .before .two-words2 .ensures) in (
       simp (
         le-ltb 4096 _ (known .before .before .before .before .if1 .left),
         length-md5,
