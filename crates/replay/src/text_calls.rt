@@ -39,7 +39,7 @@ fn md5(data: &[u8]) {
 
 fn sha1(data: &[u8]) {
     let mut digest = [0u8; 20];
-    let result = md5::digest::digest(data, &mut digest);
+    let result = sha1::digest::digest(data, &mut digest);
     digested(result, &digest);
 }
 
