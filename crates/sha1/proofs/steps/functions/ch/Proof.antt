@@ -1,5 +1,4 @@
 -- `ch` meets its promise: bit by bit it is the standard's function.
-use borrow.Author.Needs.{needs}
 use Rattle.sha1.proofs.Choice.{choice}
 use Rattle.sha1.proofs.steps.functions.ch.Statement.{statement}
 use Rattle.sha1.proofs.steps.functions.ch.Tie as tie
