@@ -4,6 +4,7 @@ pub mod AlgorithmLaws
 pub mod Password
 pub mod Examples
 pub mod Laws
+pub mod FoldLaws
 pub mod Bounds
 pub mod PhraseAndSeed
 pub mod PhraseAndSeedLaws

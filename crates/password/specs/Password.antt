@@ -10,8 +10,11 @@ use Rattle.refusal.specs.declared.Refusal.{Refusal}
 use Rattle.refusal.specs.declared.Reading.{Reading}
 use Rattle.refusal.specs.Checks.{unless}
 use Rattle.text.specs.Kinds.{lowerOf}
-use Rattle.digests.specs.Md5 as Md5
-use Rattle.digests.specs.Sha1 as Sha1
+use Rattle.digests.specs.declared.Order.{Order}
+use Rattle.digests.specs.declared.FiveWords.{FiveWords}
+use Rattle.digests.specs.Words.{bytes4}
+use Rattle.digests.specs.Md5.{md5}
+use Rattle.digests.specs.Sha1.{hashValue, sha1}
 use Rattle.password.specs.PhraseAndSeed.{phraseChecked, seedChecked}
 use Rattle.password.specs.Algorithm.{numbered, algorithmChecked, algorithmIn}
 use Rattle.password.specs.declared.algorithm.Algorithm.{Algorithm}
@@ -19,21 +22,27 @@ use Rattle.password.specs.declared.algorithm.Algorithm.{Algorithm}
 unfoldable pub use Rattle.password.specs.EightBytes.{numberAfter}
 pub use Rattle.password.specs.EightBytes.{numberOf, bytesOf}
 
--- The digest of an algorithm.
+-- An algorithm's digest of a message: RFC 1321's, or FIPS 180's.
 abbrev pub digestBy : Algorithm → List ℕ → List ℕ
-digestBy Algorithm.Md5 = Md5.md5
-digestBy Algorithm.Sha1 = Sha1.sha1
+digestBy Algorithm.Md5 = md5
+digestBy Algorithm.Sha1 = sha1
 
 -- "byte i of the 16-byte digest is xored with byte i+8, giving 8 bytes"
 unfoldable pub fold : List ℕ → List ℕ
 fold digest = upTo 8 (λ i. bitXor (getD digest i 0) (getD digest (i + 8) 0))
 
+-- R-1: "RFC 2289 Appendix A folds the five 32-bit words to two: word 0 xor word 2 xor word 4, and word 1 xor word 3; each
+-- is then written least significant byte first"
+unfoldable pub foldWords : FiveWords → List ℕ
+foldWords h = bytes4 Order.Little (bitXor (bitXor (h .a) (h .c)) (h .e)) ++ bytes4 Order.Little (bitXor (h .b) (h .d))
+
 -- The hash that an algorithm's passwords are made with: its digest, folded.
 unfoldable pub hash : Algorithm → List ℕ → ℕ
-hash algorithm m = numberOf (fold (Md5.md5 m))
+hash Algorithm.Md5 m = numberOf (fold (md5 m))
+hash Algorithm.Sha1 m = numberOf (foldWords (hashValue m))
 
 -- "Password at count 0: fold of MD5 of seed followed by pass-phrase", the seed "turned to lower case
--- first"; "at count n+1: fold of MD5 of the 8 bytes at count n".
+-- first"; "at count n+1: fold of MD5 of the 8 bytes at count n". With SHA-1 likewise.
 unfoldable pub password : Algorithm → List ℕ → List ℕ → ℕ → ℕ
 password algorithm phrase seed zero = hash algorithm (map lowerOf seed ++ phrase)
 password algorithm phrase seed (suc n) = hash algorithm (bytesOf (password algorithm phrase seed n))

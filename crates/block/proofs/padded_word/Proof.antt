@@ -9,8 +9,9 @@ use Rattle.block.proofs.padded_word.Tie as tie
 returns : tie.Need-returns
 unfolding paddedWord
 returns c =
+    let first = c .before .before .before .before in
     c .joined .ensures
-    ∙ (λ i. word (c .before .before .before .before .before .before .args .order) (c .before .before .before .before .byte .ensures i) (c .before .before .before .byte2 .ensures i)
+    ∙ (λ i. word (first .before .before .args .order) (first .byte .ensures i) (c .before .before .before .byte2 .ensures i)
     (c .before .before .byte3 .ensures i) (c .before .byte4 .ensures i))
 
 pub padded-word-spec : {M : Type 1} → statement M

@@ -11,13 +11,15 @@ use Rattle.digests.specs.declared.Order.{Order}
 use Rattle.digests.specs.Words.{bytes4}
 use Rattle.digests.specs.Md5.{registers, md5}
 
+-- The bytes of two registers.
+abbrev two : ℕ → ℕ → List ℕ
+two x y = bytes4 Order.Little x ++ bytes4 Order.Little y
+
 pub digest-put : (m : List ℕ) (q : State) (b b₁ ys : List ℕ) (n k : ℕ) → q ≡ registers m
-    → Put (bytes4 Order.Little (q .a) ++ bytes4 Order.Little (q .b)) b b₁ n
-    → Put (bytes4 Order.Little (q .c) ++ bytes4 Order.Little (q .d)) (midOf n (length b₁ - n) b₁) ys k
+    → Put (two (q .a) (q .b)) b b₁ n
+    → Put (two (q .c) (q .d)) (midOf n (length b₁ - n) b₁) ys k
     → Put (md5 m) b (putMid n (length b₁ - n) b₁ ys) (n + k)
 unfolding md5
 digest-put m q b b₁ ys n k e first second =
-    subst
-    (λ (p : State). Put (bytes4 Order.Little (p .a) ++ bytes4 Order.Little (p .b) ++ bytes4 Order.Little (p .c) ++ bytes4 Order.Little (p .d)) b (putMid n (length b₁ - n) b₁ ys) (n + k))
-    e
-    (then-put (bytes4 Order.Little (q .a) ++ bytes4 Order.Little (q .b)) (bytes4 Order.Little (q .c) ++ bytes4 Order.Little (q .d)) b b₁ ys n k first second)
+    subst (λ (p : State). Put (two (p .a) (p .b) ++ two (p .c) (p .d)) b (putMid n (length b₁ - n) b₁ ys) (n + k)) e
+    (then-put (two (q .a) (q .b)) (two (q .c) (q .d)) b b₁ ys n k first second)

@@ -1,0 +1,4 @@
+-- What the proofs of `sha1`'s functions share.
+pub mod Choice
+pub mod Scheduled
+pub mod BySixteen

@@ -1,0 +1,2 @@
+-- What the proofs of `digest`'s functions share.
+pub mod DigestBytes

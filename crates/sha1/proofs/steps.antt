@@ -1,0 +1,2 @@
+-- What the proofs of `steps`'s functions share.
+pub mod Quarters

@@ -1,0 +1,71 @@
+// FIPS 180-4, 6.1.2, 3: the steps on the working variables.
+ghost use mathlib.Core.Path.{_≡_};
+ghost use Prim.Native.Nat.{_≤_};
+ghost use Rattle.sha1.specs.Inside as code;
+use crate::steps::functions::ch;
+use crate::steps::functions::maj;
+use crate::steps::functions::parity;
+use block::arithmetic::add;
+use block::arithmetic::rotated;
+use digests::FiveWords;
+
+// The functions on words.
+mod functions;
+
+// Four words of the schedule.
+struct Four(u32, u32, u32, u32);
+
+// The four of the words that start at the i-th.
+fn part(w: [u32; 16], i: usize) -> Four
+    requires { ⌜ i ≤ 12 ⌝ }
+    ensures { λ r. ⌜ r ≡ code.fourAt w i ⌝ }
+{
+    Four(w[i], w[i + 1], w[i + 2], w[i + 3])
+}
+
+// One step: f is the function at b, c, d, and k the constant.
+fn step(v: FiveWords, f: u32, k: u32, w: u32) -> FiveWords
+    ensures { λ r. ⌜ r ≡ code.stepWith f k w v ⌝ }
+{
+    FiveWords {
+        a: add(add(add(add(rotated(v.a, 5), f), v.e), k), w),
+        b: v.a,
+        c: rotated(v.b, 30),
+        d: v.c,
+        e: v.d,
+    }
+}
+
+// One step of a quarter, 0 to 3, with the constants k of the four.
+fn step_of(quarter: u32, k: [u32; 4], v: FiveWords, w: u32) -> FiveWords
+    ensures { λ r. ⌜ r ≡ code.stepOf quarter k w v ⌝ }
+{
+    match quarter {
+        0 => step(v, ch(v.b, v.c, v.d), k[0], w),
+        1 => step(v, parity(v.b, v.c, v.d), k[1], w),
+        2 => step(v, maj(v.b, v.c, v.d), k[2], w),
+        _ => step(v, parity(v.b, v.c, v.d), k[3], w),
+    }
+}
+
+// Four steps of a quarter.
+fn four_of(quarter: u32, k: [u32; 4], v0: FiveWords, w: Four) -> FiveWords
+    ensures { λ r. ⌜ r ≡ code.fourOf quarter k w v0 ⌝ }
+{
+    let v1 = step_of(quarter, k, v0, w.0);
+    let v2 = step_of(quarter, k, v1, w.1);
+    let v3 = step_of(quarter, k, v2, w.2);
+    step_of(quarter, k, v3, w.3)
+}
+
+// Sixteen steps, from step t on. A caller says t by a literal, and the compiler then leaves no choice to be made at
+// run time.
+pub fn sixteen_of(t: u32, k: [u32; 4], v0: FiveWords, w: [u32; 16]) -> FiveWords
+    requires { ⌜ t ≤ 64 ⌝ }
+    ensures { λ r. ⌜ r ≡ code.sixteenOf t k w v0 ⌝ }
+{
+    let v1 = four_of(t / 20, k, v0, part(w, 0));
+    let v2 = four_of((t + 4) / 20, k, v1, part(w, 4));
+    let v3 = four_of((t + 8) / 20, k, v2, part(w, 8));
+    four_of((t + 12) / 20, k, v3, part(w, 12))
+}
