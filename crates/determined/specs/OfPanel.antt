@@ -2,6 +2,7 @@
 use mathlib.Core.Path.{sym, _∙_}
 use denote.Ref.{now}
 use Rattle.panel.proofs.lift_md5.Reads as lift-md5
+use Rattle.panel.proofs.lift_sha1.Reads as lift-sha1
 use Rattle.panel.proofs.lift_password.Reads as lift-password
 use Rattle.panel.proofs.lift_read_reply.Reads as lift-read-reply
 use Rattle.panel.proofs.lift_write_hex.Reads as lift-write-hex
@@ -15,6 +16,9 @@ use Rattle.determined.specs.Determined.{Answers, AnswersAndLent, Lent, b
 
 pub lift-md5-determined : AnswersAndLent lift-md5.Learnt (λ k e. now (e .1 .0))
 lift-md5-determined k a y z e f p q = both p q
+
+pub lift-sha1-determined : AnswersAndLent lift-sha1.Learnt (λ k e. now (e .1 .0))
+lift-sha1-determined k a y z e f p q = both p q
 
 pub lift-password-determined : Answers lift-password.Learnt
 lift-password-determined k a y z e f p q = p ∙ sym q
@@ -31,7 +35,7 @@ lift-write-words-determined k a y z e f p q = both p q
 pub lift-read-challenge-determined : Answers lift-read-challenge.Learnt
 lift-read-challenge-determined k a y z e f p q = p ∙ sym q
 
-pub lift-write-challenge-determined : AnswersAndLent lift-write-challenge.Learnt (λ k e. now (e .1 .1 .0))
+pub lift-write-challenge-determined : AnswersAndLent lift-write-challenge.Learnt (λ k e. now (e .1 .1 .1 .0))
 lift-write-challenge-determined k a y z e f p q = both p q
 
 pub lift-write-card-determined : AnswersAndLent lift-write-card.Learnt (λ k e. now (e .1 .1 .1 .0))

@@ -1,10 +1,11 @@
 // The functions that the panel firmware calls from C (include/lift.h): numbers and byte slices only.
 // Each is a thin cover of a proved function, with its answer laid out as a C struct.
+ghost use Rattle.block.specs.Digest.{digestOf};
 ghost use Rattle.cards.specs.Cards.{cardOf, cardWritten};
 ghost use Rattle.challenge.specs.Challenges.{challengeOf, challengeNumbered, challengeWritten};
 ghost use Rattle.digests.specs.Md5.{md5};
+ghost use Rattle.digests.specs.Sha1.{sha1};
 ghost use Rattle.hex.specs.Hex.{hexOf};
-ghost use Rattle.md5.specs.Digest.{digestOf};
 ghost use Rattle.panel.specs.Answers.{challengeRow, readingRow, Reported};
 ghost use Rattle.password.specs.Password.{generated, numberOf, bytesOf};
 ghost use Rattle.reply.specs.Reply.{readingOf};
@@ -22,14 +23,22 @@ use crate::structs::written_row;
 // Answers as C sees them.
 mod structs;
 
-// MD5 and the generator.
+// MD5, SHA-1 and the generator.
 
 #[no_mangle]
 pub extern "C" fn lift_md5(text: &[u8], digest: &mut [u8]) -> LiftWritten
-    ensures { λ r. ⌜ Reported (digestOf (now (text .entry)) (length (now (digest .entry))))
+    ensures { λ r. ⌜ Reported (digestOf md5 (now (text .entry)) (length (now (digest .entry))))
         (md5 (now (text .entry))) (now (digest .entry)) (now (digest .exit)) r ⌝ }
 {
     written_row(md5::digest::digest(text, digest))
+}
+
+#[no_mangle]
+pub extern "C" fn lift_sha1(text: &[u8], digest: &mut [u8]) -> LiftWritten
+    ensures { λ r. ⌜ Reported (digestOf sha1 (now (text .entry)) (length (now (digest .entry))))
+        (sha1 (now (text .entry))) (now (digest .entry)) (now (digest .exit)) r ⌝ }
+{
+    written_row(sha1::digest::digest(text, digest))
 }
 
 #[no_mangle]

@@ -1,11 +1,11 @@
--- The five places of a call's words: where each text stands, and that it stands within the line.
+-- The six places of a call's words: where each text stands, and that it stands within the line.
 use Prim.Native.Nat.{ℕ, zero, suc, _%_, _≤_, _<_, zero-le}
 use mathlib.Core.Path.{_≡_, refl, sym, _∙_, ap, subst}
 use mathlib.Core.Bool.{true, false, _&&_}
 use mathlib.Core.List.{List, [], _∷_}
 use native.Mathlib.Omega.{arith}
 use lib.Dec.{eqb, leb}
-use lib.ListN.{length, getD, set}
+use lib.ListN.{length, getD, replicate, set}
 use lib.Seq.{getD-set-same, getD-set-other}
 use borrow.Author.Tests.{eqb-true, eqb-false}
 use Rattle.text.specs.Tests.{every, same, either, cases}
@@ -17,18 +17,15 @@ use Rattle.replay.specs.ReplayWords.{isDigitOf, numberIn, passwordIn, te
 
 -- where texts start and end, of a line of n bytes
 abbrev pub Inside : List ℕ → List ℕ → ℕ → Type 0
-Inside starts ends n = (k : ℕ) → k < 5 → (getD starts k 0 ≤ getD ends k 0) × (getD ends k 0 ≤ n)
+Inside starts ends n = (k : ℕ) → k < 6 → (getD starts k 0 ≤ getD ends k 0) × (getD ends k 0 ≤ n)
 
-zero-at : (k : ℕ) → _≡_ {A = ℕ} (getD (0 ∷ 0 ∷ 0 ∷ 0 ∷ 0 ∷ []) k 0) 0
-zero-at zero = refl
-zero-at (suc zero) = refl
-zero-at (suc (suc zero)) = refl
-zero-at (suc (suc (suc zero))) = refl
-zero-at (suc (suc (suc (suc zero)))) = refl
-zero-at (suc (suc (suc (suc (suc k))))) = refl
+zero-at : (m k : ℕ) → _≡_ {A = ℕ} (getD (replicate m 0) k 0) 0
+zero-at zero k = refl
+zero-at (suc m) zero = refl
+zero-at (suc m) (suc k) = zero-at m k
 
-pub zeros-inside : (n : ℕ) → Inside (0 ∷ 0 ∷ 0 ∷ 0 ∷ 0 ∷ []) (0 ∷ 0 ∷ 0 ∷ 0 ∷ 0 ∷ []) n
-zeros-inside n k h = (omega arith, omega (arith, zero-at k))
+pub zeros-inside : (n : ℕ) → Inside (replicate 6 0) (replicate 6 0) n
+zeros-inside n k h = (omega arith, omega (arith, zero-at 6 k))
 
 -- one more text
 pub set-inside : (starts ends : List ℕ) (k s e n : ℕ) → k < length starts → k < length ends → s ≤ e
@@ -61,6 +58,7 @@ half-there w =
 bytes-within : (kind : Kind) (w : List ℕ) → wordIn kind w .len ≤ length w
 bytes-within Kind.Text w = half-there w
 bytes-within Kind.Password w = none-there (passwordIn w) (length w)
+bytes-within Kind.Algorithm w = none-there (numberIn 10 255 w) (length w)
 bytes-within Kind.Number w = none-there (numberIn 10 65535 w) (length w)
 bytes-within Kind.Room w = none-there (numberIn 10 8192 w) (length w)
 bytes-within Kind.Ticks w = none-there (numberIn 10 100000 w) (length w)

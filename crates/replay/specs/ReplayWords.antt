@@ -57,10 +57,12 @@ abbrev pub ofBytes : Bytes → Word
 ofBytes (Bytes.Are n) = record { good = true; len = n; number = 0 }
 ofBytes Bytes.Bad = record { good = false; len = 0; number = 0 }
 
--- "PORT, ID, COUNT, LINES and ROOM go up to 65,535, N to 100,000 (past that: `bad`)"; "ROOM up to 8,192"
+-- "PORT, ID, COUNT, LINES and ROOM go up to 65,535, N to 100,000 (past that: `bad`)"; "ROOM up to 8,192";
+-- "ALG .. goes from 0 to 255 (past that: `bad`)"
 abbrev pub wordIn : Kind → List ℕ → Word
 wordIn Kind.Text w = ofBytes (textIn w)
 wordIn Kind.Password w = ofNumber (passwordIn w)
+wordIn Kind.Algorithm w = ofNumber (numberIn 10 255 w)
 wordIn Kind.Number w = ofNumber (numberIn 10 65535 w)
 wordIn Kind.Room w = ofNumber (numberIn 10 8192 w)
 wordIn Kind.Ticks w = ofNumber (numberIn 10 100000 w)
@@ -79,4 +81,4 @@ heldTo most n = cond (ltb n (most + 1)) n most
 
 -- a call's texts stand within its line, which has n bytes
 abbrev pub Within : Given → ℕ → Type 0
-Within given n = (k : ℕ) → k < 5 → (getD (given .starts) k 0 ≤ getD (given .ends) k 0) × (getD (given .ends) k 0 ≤ n)
+Within given n = (k : ℕ) → k < 6 → (getD (given .starts) k 0 ≤ getD (given .ends) k 0) × (getD (given .ends) k 0 ≤ n)

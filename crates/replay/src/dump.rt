@@ -5,6 +5,7 @@ use crate::printing::bytes;
 use crate::printing::good;
 use crate::printing::number;
 use crate::printing::password;
+use password::algorithm::number_of;
 use table::Table;
 
 // A comma before each entry of a list but the first.
@@ -38,12 +39,15 @@ fn account(k: usize, table: Table, at: usize)
     comma(k);
     number(account.id as u64);
     byte(b':');
-    let kept = account.seed;
-    seed(kept, account.len);
+    let algorithm = account.algorithm;
+    number(number_of(algorithm) as u64);
     byte(b':');
     number(account.count as u64);
     byte(b':');
     password(account.password);
+    byte(b':');
+    let kept = account.seed;
+    seed(kept, account.len);
 }
 
 // The room of the account with the least id above `last`; 32 where there is none.

@@ -37,14 +37,14 @@ fn call_in(line: &[u8]) -> usize {
 
 // Answers a call, and hands back the table after it.
 fn answer_call(line: &mut [u8], call: usize, table: Table) -> Table
-    requires { ⌜ call < 19 ⌝ }
+    requires { ⌜ call < 20 ⌝ }
 {
     let given = script_words::read(line, call);
     if !given.good {
         printing::bad();
         return table;
     }
-    if call < 9 {
+    if call < 10 {
         text_calls::answer(call, line, given);
         return table;
     }
@@ -57,7 +57,7 @@ fn answer(line: &mut [u8], table: Table) -> Table {
         return table;
     }
     let call = call_in(line);
-    if 18 < call {
+    if 19 < call {
         printing::bad();
         return table;
     }

@@ -15,6 +15,7 @@ use crate::word_values::text_in;
 pub enum Kind {
     Text,
     Password,
+    Algorithm,
     Number, // a port, an id, a count, a number of lines
     Room,
     Ticks,
@@ -32,9 +33,9 @@ pub struct Word {
 // `starts[k]` up to `ends[k]`; any other says `numbers[k]`.
 pub struct Given {
     pub good: bool,
-    pub starts: [usize; 5],
-    pub ends: [usize; 5],
-    pub numbers: [u64; 5],
+    pub starts: [usize; 6],
+    pub ends: [usize; 6],
+    pub numbers: [u64; 6],
 }
 
 // Where the word that starts at a place ends: before a space, or with the line.
@@ -86,6 +87,7 @@ fn word_of(word: &mut [u8], kind: Kind) -> Word
     match kind {
         Kind::Text => of_bytes(text_in(word)),
         Kind::Password => of_number(password_in(word)),
+        Kind::Algorithm => of_number(number_in(word, 10, 255)),
         Kind::Number => of_number(number_in(word, 10, 65535)),
         Kind::Room => of_number(number_in(word, 10, 8192)),
         Kind::Ticks => of_number(number_in(word, 10, 100000)),
@@ -99,19 +101,19 @@ fn none() -> Given
 {
     Given {
         good: false,
-        starts: [0usize; 5],
-        ends: [0usize; 5],
-        numbers: [0u64; 5],
+        starts: [0usize; 6],
+        ends: [0usize; 6],
+        numbers: [0u64; 6],
     }
 }
 
 // How many words a call takes.
 fn count(call: usize) -> usize
-    requires { ⌜ call < 19 ⌝ }
-    ensures { λ r. ⌜ r ≤ 5 ⌝ }
+    requires { ⌜ call < 20 ⌝ }
+    ensures { λ r. ⌜ r ≤ 6 ⌝ }
 {
     let mut n = 0;
-    while n < 5 {
+    while n < 6 {
         let kind = kind_of(call, n);
         if let Kind::No = kind {
             return n;
@@ -123,12 +125,12 @@ fn count(call: usize) -> usize
 
 // What the words after the name say. The bytes of texts take the place of their digits.
 pub fn read(line: &mut [u8], call: usize) -> Given
-    requires { ⌜ call < 19 ⌝ }
+    requires { ⌜ call < 20 ⌝ }
     ensures { λ r. ⌜ Within r (length (now (line .entry))) ⌝ }
 {
-    let mut starts = [0usize; 5];
-    let mut ends = [0usize; 5];
-    let mut numbers = [0u64; 5];
+    let mut starts = [0usize; 6];
+    let mut ends = [0usize; 6];
+    let mut numbers = [0u64; 6];
     let n = count(call);
     let mut at = end_of(line, 0);
     let mut k = 0;
@@ -157,7 +159,7 @@ pub fn read(line: &mut [u8], call: usize) -> Given
 
 // The bytes of word k, a text.
 pub fn text(line: &[u8], given: Given, k: usize) -> &[u8]
-    requires { ⌜ Within given (length (now line)) × (k < 5) ⌝ }
+    requires { ⌜ Within given (length (now line)) × (k < 6) ⌝ }
     ensures { λ r. ⌜ now r ≡ textAt given k (now (line .entry)) ⌝ }
 {
     let starts = given.starts;
@@ -169,7 +171,7 @@ pub fn text(line: &[u8], given: Given, k: usize) -> &[u8]
 
 // The number that word k says.
 pub fn number(given: Given, k: usize) -> u64
-    requires { ⌜ k < 5 ⌝ }
+    requires { ⌜ k < 6 ⌝ }
     ensures { λ r. ⌜ r ≡ numberAt given k ⌝ }
 {
     let numbers = given.numbers;
@@ -178,9 +180,9 @@ pub fn number(given: Given, k: usize) -> u64
 
 // A call's numbers are within the limits of their kinds, so `short` hands its number on as it is.
 
-// An id, a count, a number of lines.
+// An id, an algorithm, a count, a number of lines.
 pub fn short(given: Given, k: usize) -> u16
-    requires { ⌜ k < 5 ⌝ }
+    requires { ⌜ k < 6 ⌝ }
     ensures { λ r. ⌜ r ≡ heldTo 65535 (numberAt given k) ⌝ }
 {
     let n = number(given, k);

@@ -38,9 +38,17 @@ fn new() -> Table {
 fn enrol(line: &[u8], given: Given, table: Table) -> Table
     requires { ⌜ Within given (length (now line)) ⌝ }
 {
-    let bytes = bytes_of(number(given, 3));
-    let seed = text(line, given, 2);
-    settled(login::enrol(table, short(given, 0), short(given, 1), seed, &bytes))
+    let bytes = bytes_of(number(given, 4));
+    let seed = text(line, given, 3);
+    let algorithm = short(given, 1) as u32;
+    settled(login::enrol(
+        table,
+        short(given, 0),
+        algorithm,
+        short(given, 2),
+        seed,
+        &bytes,
+    ))
 }
 
 fn remove(given: Given, table: Table) -> Table {
@@ -72,10 +80,19 @@ fn reply(line: &[u8], given: Given, table: Table) -> Table
 fn renew(line: &[u8], given: Given, table: Table) -> Table
     requires { ⌜ Within given (length (now line)) ⌝ }
 {
-    let bytes = bytes_of(number(given, 3));
-    let seed = text(line, given, 2);
-    let reply = text(line, given, 4);
-    answered(login::renew(table, port(given), short(given, 1), seed, &bytes, reply))
+    let bytes = bytes_of(number(given, 4));
+    let seed = text(line, given, 3);
+    let reply = text(line, given, 5);
+    let algorithm = short(given, 1) as u32;
+    answered(login::renew(
+        table,
+        port(given),
+        algorithm,
+        short(given, 2),
+        seed,
+        &bytes,
+        reply,
+    ))
 }
 
 fn ticks(table: Table, n: u64) -> Table {
@@ -94,15 +111,15 @@ pub fn answer(call: usize, line: &[u8], given: Given, table: Table) -> Table
     requires { ⌜ Within given (length (now line)) ⌝ }
 {
     match call {
-        9 => new(),
-        10 => enrol(line, given, table),
-        11 => remove(given, table),
-        12 => join(given, table),
-        13 => leave(given, table),
-        14 => challenge(given, table),
-        15 => reply(line, given, table),
-        16 => renew(line, given, table),
-        17 => ticks(table, number(given, 0)),
+        10 => new(),
+        11 => enrol(line, given, table),
+        12 => remove(given, table),
+        13 => join(given, table),
+        14 => leave(given, table),
+        15 => challenge(given, table),
+        16 => reply(line, given, table),
+        17 => renew(line, given, table),
+        18 => ticks(table, number(given, 0)),
         _ => dump(table),
     }
 }

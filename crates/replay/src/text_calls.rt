@@ -15,38 +15,54 @@ use crate::script_words::number;
 use crate::script_words::short;
 use crate::script_words::text;
 use challenge::reading::Challenge;
+use password::algorithm::number_of;
 use refusal::Written;
 
-fn md5(data: &[u8]) {
-    let mut digest = [0u8; 16];
-    match md5::digest::digest(data, &mut digest) {
+// A digest as it was left, if its writer wrote it.
+fn digested(result: Written, digest: &[u8]) {
+    match result {
         Written::Wrote(_) => {
             good();
             byte(b' ');
-            bytes(&digest);
+            bytes(digest);
             byte(b'\n');
         }
         Written::Refused(why) => refused(why),
     }
 }
 
+fn md5(data: &[u8]) {
+    let mut digest = [0u8; 16];
+    let result = md5::digest::digest(data, &mut digest);
+    digested(result, &digest);
+}
+
+fn sha1(data: &[u8]) {
+    let mut digest = [0u8; 20];
+    let result = sha1::digest::digest(data, &mut digest);
+    digested(result, &digest);
+}
+
 fn generate(line: &[u8], given: Given)
     requires { ⌜ Within given (length (now line)) ⌝ }
 {
-    let phrase = text(line, given, 0);
-    let seed = text(line, given, 1);
-    reading(generator::generate(phrase, seed, short(given, 2) as u32));
+    let algorithm = short(given, 0) as u32;
+    let phrase = text(line, given, 1);
+    let seed = text(line, given, 2);
+    reading(generator::generate(algorithm, phrase, seed, short(given, 3) as u32));
 }
 
 fn chal(text: &[u8]) {
     match challenge::reading::read(text) {
         Challenge::Read {
+            algorithm,
             count,
             start,
             len,
             used,
         } => {
             good();
+            after_space(number_of(algorithm) as u64);
             after_space(count as u64);
             after_space(start as u64);
             after_space(len as u64);
@@ -62,9 +78,14 @@ fn write(call: usize, line: &[u8], given: Given, lent: &mut [u8]) -> Written
     requires { ⌜ Within given (length (now line)) ⌝ }
 {
     match call {
-        2 => sixwords::spelling::write_words(number(given, 0), lent),
-        3 => hex::write_hex(number(given, 0), lent),
-        6 => challenge::writing::write(text(line, given, 0), short(given, 1) as u32, lent),
+        3 => sixwords::spelling::write_words(number(given, 0), lent),
+        4 => hex::write_hex(number(given, 0), lent),
+        7 => challenge::writing::write(
+            short(given, 0) as u32,
+            text(line, given, 1),
+            short(given, 2) as u32,
+            lent,
+        ),
         _ => cards::write_card(
             text(line, given, 0),
             text(line, given, 1),
@@ -99,12 +120,13 @@ pub fn answer(call: usize, line: &[u8], given: Given)
 {
     match call {
         0 => md5(text(line, given, 0)),
-        1 => generate(line, given),
-        4 => reading(reply::read(text(line, given, 0))),
-        5 => chal(text(line, given, 0)),
-        6 => writer(call, line, given, number(given, 2)),
+        1 => sha1(text(line, given, 0)),
+        2 => generate(line, given),
+        5 => reading(reply::read(text(line, given, 0))),
+        6 => chal(text(line, given, 0)),
         7 => writer(call, line, given, number(given, 3)),
-        8 => prog(text(line, given, 0)),
+        8 => writer(call, line, given, number(given, 3)),
+        9 => prog(text(line, given, 0)),
         _ => writer(call, line, given, number(given, 1)),
     }
 }

@@ -28,6 +28,9 @@ word-of-spec =
     (λ c κs. search needs)
     (λ c. search needs)
     (λ c κs. search needs)
+    (λ c κs. search needs)
+    (λ c. search needs)
+    (λ c κs. search needs)
     (λ c. search needs)
     (λ c. let t = c .before .before .before in
     let a = t .before .before .before .before .before .args in
@@ -41,17 +44,22 @@ word-of-spec =
     (λ c. search needs)
     (λ c. let t = c .before .before .before in
     let a = t .before .before .before .args in
-    said (a .kind) Kind.Number (a .word .now) (c .of-number2 .result) (t .enum-told3 .given .1) (c .of-number2 .ensures
+    said (a .kind) Kind.Algorithm (a .word .now) (c .of-number2 .result) (t .enum-told3 .given .1) (c .of-number2 .ensures
     ∙ ap ofNumber (c .before .number-in .ensures)))
     (λ c. search needs)
     (λ c. let t = c .before .before .before in
     let a = t .before .before .before .args in
-    said (a .kind) Kind.Room (a .word .now) (c .of-number3 .result) (t .enum-told4 .given .1) (c .of-number3 .ensures
+    said (a .kind) Kind.Number (a .word .now) (c .of-number3 .result) (t .enum-told4 .given .1) (c .of-number3 .ensures
     ∙ ap ofNumber (c .before .number-in2 .ensures)))
     (λ c. search needs)
     (λ c. let t = c .before .before .before in
     let a = t .before .before .before .args in
-    said (a .kind) Kind.Ticks (a .word .now) (c .of-number4 .result) (t .enum-told5 .given .1) (c .of-number4 .ensures
+    said (a .kind) Kind.Room (a .word .now) (c .of-number4 .result) (t .enum-told5 .given .1) (c .of-number4 .ensures
     ∙ ap ofNumber (c .before .number-in3 .ensures)))
+    (λ c. search needs)
+    (λ c. let t = c .before .before .before in
+    let a = t .before .before .before .args in
+    said (a .kind) Kind.Ticks (a .word .now) (c .of-number5 .result) (t .enum-told6 .given .1) (c .of-number5 .ensures
+    ∙ ap ofNumber (c .before .number-in4 .ensures)))
     (λ c. let a = c .before .before .before .before .args in
-    said (a .kind) Kind.No (a .word .now) (c .of-number5 .result) (c .before .enum-told6 .given .1) (c .of-number5 .ensures)))
+    said (a .kind) Kind.No (a .word .now) (c .of-number6 .result) (c .before .enum-told7 .given .1) (c .of-number6 .ensures)))
