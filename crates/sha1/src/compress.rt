@@ -53,30 +53,14 @@ fn compress(w0: [u32; 16], h: FiveWords) -> FiveWords
     summed(sixteen_of(64, v4, w4), h)
 }
 
-// The hash value after a message of eight bytes, given as two words. Its one block ends with the length, 64 bits. The
+// The hash value after a message of eight bytes, given as two words. Its one block has the bit after them and ends with the length, 64 bits. The
 // steps are written again here: fourteen words of the block are constants, and with them in sight the compiler makes
 // a chain step shorter by an eighth.
 pub fn compress_eight(first: u32, second: u32) -> FiveWords
     ensures { λ r. ⌜ r ≡ spec.hashValue (bytes4 Order.Big first ++ bytes4 Order.Big second) ⌝ }
 {
-    let w0 = [
-        first,
-        second,
-        0x80000000,
-        0,
-        0,
-        0,
-        0,
-        0,
-        0,
-        0,
-        0,
-        0,
-        0,
-        0,
-        0,
-        64,
-    ];
+    let bit = 0x80000000;
+    let w0 = [first, second, bit, 0, 0, 0, 0, 0, 0, 0, 0, 0, 0, 0, 0, 64];
     let h = initial();
     let v1 = sixteen_of(0, h, w0);
     let w1 = following(w0);

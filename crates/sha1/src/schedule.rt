@@ -10,10 +10,8 @@ pub fn following(m: [u32; 16]) -> [u32; 16]
     let mut w = m;
     let mut t = 0;
     while t < 16 {
-        w[t] = rotated(
-            w[(t + 13) % 16] ^ w[(t + 8) % 16] ^ w[(t + 2) % 16] ^ w[t],
-            1,
-        );
+        let x = w[(t + 13) % 16] ^ w[(t + 8) % 16] ^ w[(t + 2) % 16] ^ w[t];
+        w[t] = rotated(x, 1);
         t += 1;
     }
     w
