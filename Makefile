@@ -40,7 +40,7 @@ bench:
 	$(call needs,rt gcc python3)
 	@host/prove meter panel && python3 bench/bench.py
 
-# Programs of others on the inputs where they fail, beside our answers: all cases, or CASE=NAME.
+# Programs of others beside our answers, on inputs where they fail and on some where one agrees: all cases, or CASE=NAME.
 compare:
 	$(call needs,rt gcc python3)
 	@host/prove panel replay && python3 host/compare/compare.py $(CASE)

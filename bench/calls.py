@@ -16,7 +16,7 @@ ACCOUNTS = {"0": "0 accounts", "1": "1 account", "3": "32 accounts"}
 
 # a row's title, and what the meter's last table then has, after 1,000 calls on a table with an account
 Row = collections.namedtuple("Row", "title left")
-# Each call by its letter. Port 0 is in front of three others, all for one account; Join finds the three. A port in line
+# Each call by its letter, a capital one for accounts with SHA-1. Port 0 is in front of three others, all for one account; Join finds the three. A port in line
 # is never shut, so Tick has two rows with a line. With an account all are accepted but Enrol at 32 (53). What is left
 # is: ports in line, ticks of the turn (of a challenge its first letter, o), port 0's wrong run, port 3's shut ticks.
 CALLS = {
@@ -30,16 +30,20 @@ CALLS = {
     "u": Row("Tick, one in line, three shut", "1 20 0 860"),
     "h": Row("Reply, in hex", "3 60 0 0"),
     "w": Row("Reply, in words", "3 60 0 0"),
+    "H": Row("Reply, SHA-1, in hex", "3 60 0 0"),
+    "W": Row("Reply, SHA-1, in words", "3 60 0 0"),
     "n": Row("Renew", "3 60 0 0"),
 }
 # without an account nobody is in line
 NO_LINE = "0 0 0 0"
 WITH_A_LINE = "tu"
-# those that hash: Reply is held to a multiple of its hash, every other call to one hash and the copying
-REPLIES, HASHING = "hw", "hwn"
-MOST_HASHES, AIM_HASHES = 5, 3
-# the loop without a call, in which the table is only copied, with what that has; and the one hash that Reply does
-LOOP, FOUND, HASH = "x", "4 60 0 0", "s"
+# Each Reply, with the one hash that it does, to a multiple of which it is held, and what is aimed for; MD5's and SHA-1's
+MD5, SHA1 = "s", "S"
+REPLIES = {"h": (MD5, 5, 3), "w": (MD5, 5, 3), "H": (SHA1, 5, None), "W": (SHA1, 5, None)}
+# those that hash: every other call is held to one hash of MD5 and the copying
+HASHING = [*REPLIES, "n"]
+# the loop without a call, in which the table is only copied, with what that has
+LOOP, FOUND = "x", "4 60 0 0"
 
 
 def on(call):
@@ -89,13 +93,13 @@ def rotated(rows, number):
 
 def measured():
     """Nanoseconds of one repetition, by its letter and accounts: the median of the rounds, each of which starts at another row."""
-    wanted = [(HASH, "0"), (LOOP, "3"), *repeated()]
+    wanted = [(MD5, "0"), (SHA1, "0"), (LOOP, "3"), *repeated()]
     rounds = [{row: once(*row) for row in rotated(wanted, number * len(wanted) // ROUNDS)} for number in range(ROUNDS)]
     return {row: statistics.median(times[row] for times in rounds) for row in wanted}
 
 
 class Account(ctypes.Structure):
-    _fields_ = [("id", ctypes.c_uint16), ("seed", ctypes.c_uint8 * 16), ("len", ctypes.c_size_t),
+    _fields_ = [("id", ctypes.c_uint16), ("algorithm", ctypes.c_uint8), ("seed", ctypes.c_uint8 * 16), ("len", ctypes.c_size_t),
                 ("count", ctypes.c_uint16), ("password", ctypes.c_uint64)]
 
 
@@ -135,16 +139,16 @@ def call_row(call, calls, limit):
 def table():
     check()
     found = measured()
-    one_hash, copied = found[HASH, "0"], found[LOOP, "3"]
+    md5, sha1, copied = found[MD5, "0"], found[SHA1, "0"], found[LOOP, "3"]
     calls = {what: taken - copied for what, taken in found.items() if what[0] in CALLS}
-    limit = one_hash + copied
+    limit = md5 + copied
     print(f"The login table: nanoseconds of a call, median of {ROUNDS} rounds, less the loop without a call.")
     print(f"{'':30}" + "".join(f"{title:>14}" for title in ACCOUNTS.values()))
     print("\n".join(call_row(call, calls, limit) for call in CALLS))
     print("Without an account every call but Enrol and Tick is refused.")
-    print(f"One hash takes {one_hash:.1f}, the loop without a call, which copies the table, {copied:.1f}; "
+    print(f"One hash takes {md5:.1f} by MD5 and {sha1:.1f} by SHA-1, the loop without a call, which copies the table, {copied:.1f}; "
           f"a Table has {table_bytes():,} bytes.")
-    print(f"A call without a hash is to take one hash and the copying at most, {limit:.1f}; one that is over it is marked.")
-    for call in REPLIES:
-        hashes = calls[call, "3"] / one_hash
-        print(f"{CALLS[call].title}, to its one hash: {hashes:.2f}; at most {bounds.said(hashes, MOST_HASHES, AIM_HASHES)}")
+    print(f"A call without a hash is to take one hash by MD5 and the copying at most, {limit:.1f}; one that is over it is marked.")
+    for call, (hash_of, most, aim) in REPLIES.items():
+        hashes = calls[call, "3"] / found[hash_of, "0"]
+        print(f"{CALLS[call].title}, to its one hash: {hashes:.2f}; at most {bounds.said(hashes, most, aim)}")

@@ -22,7 +22,7 @@ static size_t write_card(void)
 
 static uint64_t password_at(uint32_t count)
 {
-    return lift_password(BYTES(phrase), BYTES(seed), count).password;
+    return lift_password(LIFT_MD5, BYTES(phrase), BYTES(seed), count).password;
 }
 
 /* Where the line after this one starts, if this one is for that count. */

@@ -17,7 +17,8 @@ void find_heimdal(void)
         !find(library, "otp_print_hex", &found.print_hex))
         return;
     found.md5 = found.find_alg("md5");
-    if (found.md5 != NULL)
+    found.sha1 = found.find_alg("sha"); /* its name for it */
+    if (found.md5 != NULL && found.sha1 != NULL)
         heimdal = &found;
 }
 

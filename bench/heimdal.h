@@ -20,7 +20,7 @@ typedef struct {
     int (*parse_hex)(unsigned char *key, const char *s);
     void (*print_stddict)(unsigned char *key, char *str, size_t sz);
     void (*print_hex)(unsigned char *key, char *str, size_t sz);
-    heimdal_algorithm *md5;
+    heimdal_algorithm *md5, *sha1;
 } heimdal_library;
 
 /* Null where the library isn't installed. */

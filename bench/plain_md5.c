@@ -1,9 +1,9 @@
 /* MD5 and the chain in plain C, as RFC 1321 writes it: the four rounds as 64
  * steps by macro, the block of a chain step built from its eight bytes. It
  * checks nothing; it is here to be timed. */
-#include "plain_md5.h"
+#include "plain.h"
 
-#include <string.h>
+#include "padding.h"
 
 #ifdef STRONGEST /* strongest_md5.c has why */
 #define F(x, y, z) ((z) ^ ((x) & ((y) ^ (z))))
@@ -75,20 +75,15 @@ static INLINED void compress_bytes(uint32_t state[4], const uint8_t *block)
 
 static void digest_words(const uint8_t *text, size_t len, uint32_t state[4])
 {
-    uint8_t tail[128] = {0};
-    size_t whole = len / 64 * 64, left = len - whole;
-    size_t end = left < 56 ? 64 : 128;
-    for (size_t at = 0; at < whole; at += 64)
+    uint8_t tail[2 * BLOCK] = {0};
+    size_t end = padded_tail(text, len, LOW_FIRST, tail);
+    for (size_t at = 0; at + BLOCK <= len; at += BLOCK)
         compress_bytes(state, text + at);
-    memcpy(tail, text + whole, left);
-    tail[left] = 0x80;
-    for (int i = 0; i < 8; i++)
-        tail[end - 8 + (size_t)i] = (uint8_t)((uint64_t)len * 8 >> 8 * i);
-    for (size_t at = 0; at < end; at += 64)
+    for (size_t at = 0; at < end; at += BLOCK)
         compress_bytes(state, tail + at);
 }
 
-void plain_md5(const uint8_t *text, size_t len, uint8_t digest[16])
+void plain_md5(const uint8_t *text, size_t len, uint8_t *digest)
 {
     uint32_t state[4] = START;
     digest_words(text, len, state);
@@ -102,15 +97,12 @@ static uint64_t password_of(uint32_t low, uint32_t high)
     return (uint64_t)__builtin_bswap32(low) << 32 | __builtin_bswap32(high);
 }
 
-uint64_t plain_password(const uint8_t *phrase, size_t phrase_len,
-                        const uint8_t *seed, size_t seed_len, uint32_t count)
+uint64_t plain_md5_password(const uint8_t *phrase, size_t phrase_len,
+                            const uint8_t *seed, size_t seed_len, uint32_t count)
 {
-    uint8_t text[16 + 63];
+    uint8_t text[MOST_TEXT];
     uint32_t state[4] = START;
-    for (size_t i = 0; i < seed_len; i++)
-        text[i] = seed[i] >= 'A' && seed[i] <= 'Z' ? seed[i] | 0x20 : seed[i];
-    memcpy(text + seed_len, phrase, phrase_len);
-    digest_words(text, seed_len + phrase_len, state);
+    digest_words(text, seed_and_phrase(phrase, phrase_len, seed, seed_len, text), state);
     uint32_t low = state[0] ^ state[2], high = state[1] ^ state[3];
     for (uint32_t n = 0; n < count; n++) {
         /* a chain step's block: the eight bytes, the bit after them, 64 bits long */

@@ -28,7 +28,7 @@ static uint64_t challenge_read(const uint8_t *text, size_t len)
 static uint64_t challenge_written(const uint8_t *seed, size_t len)
 {
     uint8_t buf[ROOM];
-    lift_written w = lift_write_challenge(seed, len, COUNT, buf, sizeof buf);
+    lift_written w = lift_write_challenge(LIFT_MD5, seed, len, COUNT, buf, sizeof buf);
     return w.refusal != 0 ? w.refusal : w.written;
 }
 

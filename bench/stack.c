@@ -26,27 +26,44 @@ static uint8_t bytes[ROOM], buf[ROOM], card[99 * 52];
 
 #define BYTES(literal) (const uint8_t *)(literal), sizeof(literal) - 1
 
-/* Lengths on both sides of where padding takes another block, and one too long. */
+/* On both sides of where padding takes another block, and one too long. */
+static const size_t lengths[] = {0, 55, 56, 64, 119, 120, 4096, 4097};
+
 static void call_md5(void)
 {
-    static const size_t lengths[] = {0, 55, 56, 64, 119, 120, 4096, 4097};
     for (size_t i = 0; i < LENGTH_OF(lengths); i++)
         lift_md5(bytes, lengths[i], buf, 16);
     lift_md5(bytes, 64, buf, 15);
 }
 
+static void call_sha1(void)
+{
+    for (size_t i = 0; i < LENGTH_OF(lengths); i++)
+        lift_sha1(bytes, lengths[i], buf, 20);
+    lift_sha1(bytes, 64, buf, 19);
+}
+
+/* Both, and a number that is none. */
+static const uint32_t algorithms[] = {LIFT_MD5, LIFT_SHA1, 3};
+
 /* Shortest and longest inputs, a seed in upper case, each refusal. */
-static void call_password(void)
+static void call_password_by(uint32_t algorithm)
 {
     static const uint32_t counts[] = {0, 1, 2, 100, 9999, 10000};
     for (size_t i = 0; i < LENGTH_OF(counts); i++) {
-        lift_password(bytes, 10, BYTES("t"), counts[i]);
-        lift_password(bytes, 63, BYTES("ABCDEFGHijkl6789"), counts[i]);
+        lift_password(algorithm, bytes, 10, BYTES("t"), counts[i]);
+        lift_password(algorithm, bytes, 63, BYTES("ABCDEFGHijkl6789"), counts[i]);
     }
-    lift_password(bytes, 9, BYTES("test"), 1);
-    lift_password(bytes, 64, BYTES("test"), 1);
-    lift_password(bytes, 10, BYTES(""), 1);
-    lift_password(bytes, 10, BYTES("te st"), 1);
+    lift_password(algorithm, bytes, 9, BYTES("test"), 1);
+    lift_password(algorithm, bytes, 64, BYTES("test"), 1);
+    lift_password(algorithm, bytes, 10, BYTES(""), 1);
+    lift_password(algorithm, bytes, 10, BYTES("te st"), 1);
+}
+
+static void call_password(void)
+{
+    for (size_t i = 0; i < LENGTH_OF(algorithms); i++)
+        call_password_by(algorithms[i]);
 }
 
 /* Words and hex in both cases and with white space, each refusal. */
@@ -90,6 +107,7 @@ static void call_write_hex(void)
 static void call_read_challenge(void)
 {
     lift_read_challenge(BYTES("otp-md5 9999 ABCDEFGHijkl6789 "));
+    lift_read_challenge(BYTES("otp-sha1 9999 ABCDEFGHijkl6789 "));
     lift_read_challenge(BYTES("otp-md5 \t0\t t\n"));
     lift_read_challenge(BYTES("OTP-md5 1 t\n"));
     lift_read_challenge(BYTES("otp-md4 1 t\n"));
@@ -101,14 +119,20 @@ static void call_read_challenge(void)
     lift_read_challenge(bytes, 0);
 }
 
+static void call_write_challenge_by(uint32_t algorithm)
+{
+    lift_write_challenge(algorithm, BYTES("ABCDEFGHijkl6789"), 9999, buf, 31);
+    lift_write_challenge(algorithm, BYTES("ABCDEFGHijkl6789"), 9999, buf, 29);
+    lift_write_challenge(algorithm, BYTES("t"), 0, buf, ROOM);
+    lift_write_challenge(algorithm, BYTES(""), 0, buf, ROOM);
+    lift_write_challenge(algorithm, BYTES("te_st"), 0, buf, ROOM);
+    lift_write_challenge(algorithm, BYTES("test"), 10000, buf, ROOM);
+}
+
 static void call_write_challenge(void)
 {
-    lift_write_challenge(BYTES("ABCDEFGHijkl6789"), 9999, buf, 30);
-    lift_write_challenge(BYTES("ABCDEFGHijkl6789"), 9999, buf, 29);
-    lift_write_challenge(BYTES("t"), 0, buf, ROOM);
-    lift_write_challenge(BYTES(""), 0, buf, ROOM);
-    lift_write_challenge(BYTES("te_st"), 0, buf, ROOM);
-    lift_write_challenge(BYTES("test"), 10000, buf, ROOM);
+    for (size_t i = 0; i < LENGTH_OF(algorithms); i++)
+        call_write_challenge_by(algorithms[i]);
 }
 
 /* One line, and the most; a refusal of each kind of input. */
@@ -116,6 +140,7 @@ static void call_write_card(void)
 {
     lift_write_card(bytes, 10, BYTES("otp-md5 1 t\n"), 1, buf, ROOM);
     lift_write_card(bytes, 63, BYTES("otp-md5 9999 ABCDEFGHijkl6789 "), 99, card, sizeof card);
+    lift_write_card(bytes, 63, BYTES("otp-sha1 9999 ABCDEFGHijkl6789 "), 99, card, sizeof card);
     lift_write_card(bytes, 63, BYTES("otp-md5 9999 ABCDEFGHijkl6789 "), 99, card, 99);
     lift_write_card(bytes, 9, BYTES("otp-md5 1 t\n"), 1, buf, ROOM);
     lift_write_card(bytes, 10, BYTES("otp-md4 1 t\n"), 1, buf, ROOM);
@@ -172,6 +197,7 @@ int main(void)
 {
     memset(bytes, 'a', sizeof bytes);
     measure("lift_md5", call_md5);
+    measure("lift_sha1", call_sha1);
     measure("lift_password", call_password);
     measure("lift_read_reply", call_read_reply);
     measure("lift_write_hex", call_write_hex);

@@ -6,9 +6,9 @@
 #define STRONGEST
 #ifdef BY_CLANG
 #define plain_md5 clang_md5
-#define plain_password clang_password
+#define plain_md5_password clang_md5_password
 #else
 #define plain_md5 gcc_md5
-#define plain_password gcc_password
+#define plain_md5_password gcc_md5_password
 #endif
 #include "plain_md5.c"

@@ -8,6 +8,9 @@
 #include <stdlib.h>
 #include <sys/mman.h>
 
+const algorithm algorithms[ALGORITHMS] = {{LIFT_MD5, "md5"}, {LIFT_SHA1, "sha1"}};
+const uint32_t unknown[UNKNOWN] = {0, 3, 4, 255, 256, 257, 258, 65537, 65538, (uint32_t)1 << 31, UINT32_MAX};
+
 static int checks;
 
 void check(bool holds, const char *what, const char *file, int line)
@@ -68,7 +71,7 @@ bool refuses(lift_reading r, uint32_t number, uint32_t place)
 }
 
 void check_writer(lift_written (*write)(uint64_t, uint8_t *, size_t),
-                         uint64_t password, const char *text)
+                  uint64_t password, const char *text)
 {
     size_t len = strlen(text), large_len;
     for (size_t room = 0; room <= len + 8; room++) {

@@ -9,7 +9,16 @@
 
 #include "lend.h"
 
-enum { SIDES = 2 };
+enum { SIDES = 2, ALGORITHMS = 2, UNKNOWN = 11 };
+
+/* The algorithms, each with its name in a challenge; and numbers that are
+ * none's, some of which are one's in their lowest byte or half. */
+typedef struct {
+    uint32_t number;
+    const char *name;
+} algorithm;
+extern const algorithm algorithms[ALGORITHMS];
+extern const uint32_t unknown[UNKNOWN];
 
 void check(bool holds, const char *what, const char *file, int line);
 #define CHECK(claim) check(claim, #claim, __FILE__, __LINE__)

@@ -10,7 +10,7 @@
 #include "lend.h"
 #include "lift.h"
 
-enum { MOST_WORDS = FIELDS, MOST_NUMBER = 65535 };
+enum { MOST_WORDS = FIELDS, MOST_ALGORITHM = 255, MOST_NUMBER = 65535 };
 
 /* One word of a call: a number (of which a password is one), or bytes. */
 typedef struct {
@@ -19,7 +19,7 @@ typedef struct {
     size_t len;
 } word;
 
-/* Kinds of words: t text, p password, n number, r room. */
+/* Kinds of words: t text, p password, a algorithm, n number, r room. */
 typedef struct {
     const char *name;
     const char *kinds;
@@ -65,23 +65,35 @@ static void print_written(const uint8_t *buf, lift_written w)
     puts(clean ? " clean" : " dirty");
 }
 
-static void answer_md5(const word *given)
+static void print_digest(lift_written (*digest_of)(const uint8_t *, size_t, uint8_t *, size_t),
+                         size_t digest_len, const word *text)
 {
     uint8_t *digest = lent();
-    lift_written w = lift_md5(given[0].bytes, given[0].len, digest, 16);
-    if (w.refusal != 0) {
-        printf("no %" PRIu32 "\n", w.refusal);
-        return;
+    lift_written w = digest_of(text->bytes, text->len, digest, digest_len);
+    bool clean = touched_only(w.written) && (w.refusal == 0 || w.written == 0);
+    if (w.refusal == 0) {
+        printf("ok ");
+        print_lent(digest, w.written);
+    } else {
+        printf("no %" PRIu32, w.refusal);
     }
-    printf("ok ");
-    print_lent(digest, w.written);
-    puts(touched_only(w.written) ? "" : " dirty");
+    puts(clean ? "" : " dirty");
+}
+
+static void answer_md5(const word *given)
+{
+    print_digest(lift_md5, 16, &given[0]);
+}
+
+static void answer_sha1(const word *given)
+{
+    print_digest(lift_sha1, 20, &given[0]);
 }
 
 static void answer_gen(const word *given)
 {
-    print_reading(lift_password(given[0].bytes, given[0].len, given[1].bytes,
-                                given[1].len, (uint32_t)given[2].number));
+    print_reading(lift_password((uint32_t)given[0].number, given[1].bytes, given[1].len,
+                                given[2].bytes, given[2].len, (uint32_t)given[3].number));
 }
 
 static void answer_read(const word *given)
@@ -104,9 +116,11 @@ static void answer_words(const word *given)
 static void answer_chal(const word *given)
 {
     lift_challenge c = lift_read_challenge(given[0].bytes, given[0].len);
-    bool clean = c.refusal == 0 || (c.count == 0 && c.seed_at == 0 && c.seed_len == 0 && c.used == 0);
+    bool clean = c.refusal == 0 || (c.algorithm == 0 && c.count == 0 && c.seed_at == 0 &&
+                                    c.seed_len == 0 && c.used == 0);
     if (c.refusal == 0)
-        printf("ok %" PRIu32 " %zu %zu %zu", c.count, c.seed_at, c.seed_len, c.used);
+        printf("ok %" PRIu32 " %" PRIu32 " %zu %zu %zu", c.algorithm, c.count, c.seed_at,
+               c.seed_len, c.used);
     else
         printf("no %" PRIu32, c.refusal);
     puts(clean ? "" : " dirty");
@@ -115,8 +129,8 @@ static void answer_chal(const word *given)
 static void answer_wchal(const word *given)
 {
     uint8_t *buf = lent();
-    print_written(buf, lift_write_challenge(given[0].bytes, given[0].len, (uint32_t)given[1].number,
-                                            buf, given[2].number));
+    print_written(buf, lift_write_challenge((uint32_t)given[0].number, given[1].bytes, given[1].len,
+                                            (uint32_t)given[2].number, buf, given[3].number));
 }
 
 static void answer_card(const word *given)
@@ -128,12 +142,13 @@ static void answer_card(const word *given)
 
 static const call calls[] = {
     {"md5", "t", answer_md5},
-    {"gen", "ttn", answer_gen},
+    {"sha1", "t", answer_sha1},
+    {"gen", "attn", answer_gen},
     {"read", "t", answer_read},
     {"hex", "pr", answer_hex},
     {"words", "pr", answer_words},
     {"chal", "t", answer_chal},
-    {"wchal", "tnr", answer_wchal},
+    {"wchal", "atnr", answer_wchal},
     {"card", "ttnr", answer_card},
 };
 
@@ -191,6 +206,7 @@ static bool take_text(const char *text, int at, word *out)
 static bool take_word(char kind, const char *text, int at, word *out)
 {
     switch (kind) {
+    case 'a': return take_number(text, MOST_ALGORITHM, out);
     case 'n': return take_number(text, MOST_NUMBER, out);
     case 'r': return take_number(text, MOST_ROOM, out);
     case 'p': return take_password(text, out);

@@ -1,12 +1,13 @@
-"""An independent model of the base: document 01's rules in Python.
+"""An independent model: the rules of documents 01 and 02 in Python.
 
-It shares no code with the proved crates: hashlib gives MD5's digest, and all
-else is written from document 01 and RFC 2289. A rule that refuses raises
+It shares no code with the proved crates: hashlib gives the digests, and all
+else is written from the two documents and RFC 2289. A rule that refuses raises
 Refused. `python3 host/model.py < SCRIPT` answers a script of replay lines.
 """
 import hashlib
 import pathlib
 import re
+import struct
 import sys
 
 WORDS = (pathlib.Path(__file__).parent / "words.txt").read_text().split()
@@ -26,23 +27,55 @@ def refuse_if(fault, number, place=0):
         raise Refused(number, place)
 
 
-# 01, From pass-phrase to password
+# 02, R-1: an algorithm is a number at a call, and a name in a text
+
+MD5, SHA1 = 1, 2
+NAMES = {MD5: b"md5", SHA1: b"sha1"}
 
 
-def md5(data):
+def check_algorithm(algorithm):
+    """1 or 2, else 21."""
+    refuse_if(algorithm not in NAMES, 21)
+
+
+def algorithm_named(name):
+    """In lower case and whole, else 21."""
+    numbers = {known: number for number, known in NAMES.items()}
+    refuse_if(name not in numbers, 21)
+    return numbers[name]
+
+
+# 01, From pass-phrase to password; 02, R-1
+
+
+def digest(algorithm, data):
     """0 to 4,096 bytes, else 12."""
     refuse_if(len(data) > 4096, 12)
-    return hashlib.md5(data).digest()
+    return hashlib.new(NAMES[algorithm].decode(), data).digest()
 
 
-def fold(digest):
-    """Byte i xor byte i+8; the 8 bytes are a number, the first most significant."""
-    return int.from_bytes(digest[:8], "big") ^ int.from_bytes(digest[8:], "big")
+def fold_md5(sixteen):
+    """Byte i xor byte i+8."""
+    return bytes(a ^ b for a, b in zip(sixteen[:8], sixteen[8:]))
 
 
-def hashed_once(password):
+def fold_sha1(twenty):
+    """RFC 2289, Appendix A: five words to two, each written least significant byte first."""
+    words = struct.unpack(">5I", twenty)
+    return struct.pack("<2I", words[0] ^ words[2] ^ words[4], words[1] ^ words[3])
+
+
+FOLDS = {MD5: fold_md5, SHA1: fold_sha1}
+
+
+def hashed(algorithm, data):
+    """The folded digest; the 8 bytes are a number, the first most significant."""
+    return int.from_bytes(FOLDS[algorithm](digest(algorithm, data)), "big")
+
+
+def hashed_once(algorithm, password):
     """The password at the next count."""
-    return fold(md5(password.to_bytes(8, "big")))
+    return hashed(algorithm, password.to_bytes(8, "big"))
 
 
 def check_phrase(phrase):
@@ -57,20 +90,21 @@ def check_seed(seed):
     refuse_if(not re.fullmatch(rb"[A-Za-z0-9]*", seed), 24)
 
 
-def chain(phrase, seed, count):
+def chain(algorithm, phrase, seed, count):
     """The passwords at counts 0 to count: seed in lower case, then pass-phrase."""
-    passwords = [fold(md5(seed.lower() + phrase))]
+    passwords = [hashed(algorithm, seed.lower() + phrase)]
     for _ in range(count):
-        passwords.append(hashed_once(passwords[-1]))
+        passwords.append(hashed_once(algorithm, passwords[-1]))
     return passwords
 
 
-def generator(phrase, seed, count):
-    """10, 11, 23, 24, 13 in that order."""
+def generator(algorithm, phrase, seed, count):
+    """21, 10, 11, 23, 24, 13 in that order."""
+    check_algorithm(algorithm)
     check_phrase(phrase)
     check_seed(seed)
     refuse_if(count > 9999, 13)
-    return chain(phrase, seed, count)[count]
+    return chain(algorithm, phrase, seed, count)[count]
 
 
 # 01, Six words and hex
@@ -141,11 +175,11 @@ def after_blanks(text, at):
 
 
 def read_challenge(text):
-    """Steps 1 to 5: the count, where the seed starts, its length, the bytes used."""
+    """Steps 1 to 5: the algorithm, the count, where the seed starts, its length, the bytes used."""
     refuse_if(text[:4] != b"otp-", 20)
-    algorithm = token_at(text, 4)
-    refuse_if(algorithm != b"md5", 21)
-    count_at = after_blanks(text, 4 + len(algorithm))
+    name = token_at(text, 4)
+    algorithm = algorithm_named(name)
+    count_at = after_blanks(text, 4 + len(name))
     digits = token_at(text, count_at)
     refuse_if(not re.fullmatch(rb"0|[1-9][0-9]{0,3}", digits), 22)
     seed_at = after_blanks(text, count_at + len(digits))
@@ -153,30 +187,31 @@ def read_challenge(text):
     check_seed(seed)
     end = seed_at + len(seed)
     refuse_if(text[end:end + 1] not in (b" ", b"\n"), 25)
-    return int(digits), seed_at, len(seed), end + 1
+    return algorithm, int(digits), seed_at, len(seed), end + 1
 
 
-def challenge_text(seed, count):
+def challenge_text(algorithm, seed, count):
     """Single spaces, the seed in lower case and a newline."""
-    return b"otp-md5 %d %s\n" % (count, seed.lower())
+    return b"otp-%s %d %s\n" % (NAMES[algorithm], count, seed.lower())
 
 
-def write_challenge(seed, count, room):
-    """23, 24, 13, 40 in that order."""
+def write_challenge(algorithm, seed, count, room):
+    """21, 23, 24, 13, 40 in that order."""
+    check_algorithm(algorithm)
     check_seed(seed)
     refuse_if(count > 9999, 13)
-    return into_room(challenge_text(seed, count), room)
+    return into_room(challenge_text(algorithm, seed, count), room)
 
 
 # 01, The card
 
 
 def card_text(phrase, challenge, lines):
-    """10, 11, 20 to 25, 70; then a line each for counts n down to n-k+1."""
+    """10, 11, 20 to 25, 70; then a line each for counts n down to n-k+1, by the challenge's algorithm."""
     check_phrase(phrase)
-    count, at, length, _ = read_challenge(challenge)
+    algorithm, count, at, length, _ = read_challenge(challenge)
     refuse_if(not 1 <= lines <= min(99, count), 70)
-    passwords = chain(phrase, challenge[at:at + length], count)
+    passwords = chain(algorithm, phrase, challenge[at:at + length], count)
     return b"".join(
         b"%d %s %s\n" % (n, hex_of(passwords[n]), words_of(passwords[n]))
         for n in range(count, count - lines, -1))
@@ -210,8 +245,8 @@ def card_program(stdin):
 
 
 class Account:
-    def __init__(self, seed, count, password):
-        self.seed, self.count, self.password = seed.lower(), count, password
+    def __init__(self, algorithm, count, seed, password):
+        self.algorithm, self.count, self.seed, self.password = algorithm, count, seed.lower(), password
 
 
 class Port:
@@ -228,14 +263,15 @@ class Table:
         self.line = []  # (port, id of the account it waits for), front first
         self.turn = 0
 
-    def enrol(self, id, count, seed, password):
-        """50, 51, 23, 24, 52, 53."""
+    def enrol(self, id, algorithm, count, seed, password):
+        """50, 51, 21, 23, 24, 52, 53."""
         refuse_if(id == 0, 50)
         refuse_if(not 2 <= count <= 9999, 51)
+        check_algorithm(algorithm)
         check_seed(seed)
         refuse_if(id in self.accounts, 52)
         refuse_if(len(self.accounts) == 32, 53)
-        self.accounts[id] = Account(seed, count, password)
+        self.accounts[id] = Account(algorithm, count, seed, password)
 
     def remove(self, id):
         """54. Every port in line for that account leaves it."""
@@ -261,9 +297,9 @@ class Table:
         self.take_out(lambda leaving, _: leaving == port)
 
     def challenge(self, port, room):
-        """The checks of a turn, then 40. Stored count less 1 and the seed."""
+        """The checks of a turn, then 40. The account's algorithm, stored count less 1 and the seed."""
         account = self.account_in_turn(port)
-        return into_room(challenge_text(account.seed, account.count - 1), room)
+        return into_room(challenge_text(account.algorithm, account.seed, account.count - 1), room)
 
     def reply(self, port, text):
         """The checks of a turn, 30 to 33, then 61 or 62, or the new count."""
@@ -274,14 +310,15 @@ class Table:
         account.count -= 1
         return account.count
 
-    def renew(self, port, count, seed, password, text):
-        """The checks of a turn, 51, 23, 24, 63, then as Reply."""
+    def renew(self, port, algorithm, count, seed, password, text):
+        """The checks of a turn, 51, 21, 23, 24, 63, then as Reply: only what is accepted changes the algorithm."""
         account = self.account_in_turn(port)
         refuse_if(not 2 <= count <= 9999, 51)
+        check_algorithm(algorithm)
         check_seed(seed)
         refuse_if(seed.lower() == account.seed, 63)
         self.offer(port, account, read_reply(text))
-        account.__init__(seed, count, password)
+        account.__init__(algorithm, count, seed, password)
         return count
 
     def tick(self):
@@ -306,8 +343,8 @@ class Table:
         return account
 
     def offer(self, port, account, password):
-        """Hash once and compare: the port leaves either way; 61, or 62 at the third."""
-        right = hashed_once(password) == account.password
+        """Hash once, by the account's algorithm, and compare: the port leaves either way; 61, or 62 at the third."""
+        right = hashed_once(account.algorithm, password) == account.password
         self.leave(port)
         record = self.ports[port]
         record.wrong_run = 0 if right else record.wrong_run + 1
@@ -326,7 +363,7 @@ class Table:
     def dump(self):
         """The table on a line: accounts by rising id, ports, line, turn."""
         accounts = ",".join(
-            f"{id}:{a.seed.hex()}:{a.count}:{a.password:016x}"
+            f"{id}:{a.algorithm}:{a.count}:{a.password:016x}:{a.seed.hex()}"
             for id, a in sorted(self.accounts.items()))
         ports = ",".join(f"{p.wrong_run}:{p.shut_ticks}" for p in self.ports)
         line = ",".join(f"{port}:{id}" for port, id in self.line)
@@ -364,7 +401,7 @@ def number_to(most):
 
 
 TEXT, PASSWORD = text_in, password_in
-NUMBER, ROOM, TICKS = number_to(65535), number_to(8192), number_to(100000)
+ALGORITHM, NUMBER, ROOM, TICKS = number_to(255), number_to(65535), number_to(8192), number_to(100000)
 
 
 def hex_word(text):
@@ -378,23 +415,24 @@ def ticks(table, n):
 
 # each call's kinds of words, and what it does on the table: the values of its answer
 CALLS = {
-    "md5": ([TEXT], lambda t, data: hex_word(md5(data))),
-    "gen": ([TEXT, TEXT, NUMBER], lambda t, *given: "%016x" % generator(*given)),
+    "md5": ([TEXT], lambda t, data: hex_word(digest(MD5, data))),
+    "sha1": ([TEXT], lambda t, data: hex_word(digest(SHA1, data))),
+    "gen": ([ALGORITHM, TEXT, TEXT, NUMBER], lambda t, *given: "%016x" % generator(*given)),
     "words": ([PASSWORD, ROOM], lambda t, p, room: into_room(words_of(p), room)),
     "hex": ([PASSWORD, ROOM], lambda t, p, room: into_room(hex_of(p), room)),
     "read": ([TEXT], lambda t, text: "%016x" % read_reply(text)),
-    "chal": ([TEXT], lambda t, text: "%d %d %d %d" % read_challenge(text)),
-    "wchal": ([TEXT, NUMBER, ROOM], lambda t, *given: write_challenge(*given)),
+    "chal": ([TEXT], lambda t, text: "%d %d %d %d %d" % read_challenge(text)),
+    "wchal": ([ALGORITHM, TEXT, NUMBER, ROOM], lambda t, *given: write_challenge(*given)),
     "card": ([TEXT, TEXT, NUMBER, ROOM], lambda t, *given: write_card(*given)),
     "prog": ([TEXT], lambda t, stdin: hex_word(card_program(stdin))),
     "new": ([], Table.__init__),
-    "enrol": ([NUMBER, NUMBER, TEXT, PASSWORD], Table.enrol),
+    "enrol": ([NUMBER, ALGORITHM, NUMBER, TEXT, PASSWORD], Table.enrol),
     "remove": ([NUMBER], Table.remove),
     "join": ([NUMBER, NUMBER], Table.join),
     "leave": ([NUMBER], Table.leave),
     "challenge": ([NUMBER, ROOM], Table.challenge),
     "reply": ([NUMBER, TEXT], Table.reply),
-    "renew": ([NUMBER, NUMBER, TEXT, PASSWORD, TEXT], Table.renew),
+    "renew": ([NUMBER, ALGORITHM, NUMBER, TEXT, PASSWORD, TEXT], Table.renew),
     "tick": ([TICKS], ticks),
     "dump": ([], Table.dump),
 }

@@ -1,9 +1,10 @@
-"""Random replay scripts: a day at a controller with everything that can go wrong.
+"""Random replay scripts: a day at a controller with everything that can go wrong, under both algorithms.
 
 `script(seed, calls)` is the same for the same two numbers. Each call is run on
 the model as it is made, so that the next one can suit the table: the right
 reply of the port whose turn it is, a full table, four ports in line.
 """
+import collections
 import random
 
 import harness
@@ -16,14 +17,18 @@ PHRASES = [b"A_Valid_Pass_Phrase", b"This is a test.", b"\0" * 10, bytes(range(1
 
 # the numbers of document 01, each of which some call can give
 NUMBERS = [10, 11, 12, 13, *range(20, 26), *range(30, 34), 40, *range(50, 64), 70]
+# the calls that are told an algorithm, by number or in a challenge: each can give 21
+TOLD = ["gen", "chal", "wchal", "card", "enrol", "renew"]
 
 
 class Day:
-    """A table, what is known of its passwords, and how often each call is made."""
+    """A table, what is known of its passwords, how often each call is made; the lines so far, and the model's answers."""
 
     def __init__(self, seed):
         self.rng = random.Random(seed)
         self.table = model.Table()
+        self.lines, self.answers = [], []
+        self.accepted = collections.Counter()  # replies and renewals, with the account's algorithm before and after
         self.before = {}  # a password -> the one that it is the hash of
         self.long_left = 2  # very long texts and long waits that the script may still have
         self.calls, self.weights = zip(*self.mood())
@@ -39,9 +44,21 @@ class Day:
             self.join: rng.choice([10, 20, 30]), self.leave: rng.choice([1, 2, 4]),
             self.challenge: 4, self.reply: rng.choice([6, 15, 30]), self.renew: rng.choice([3, 8]),
             self.tick: rng.choice([2, 5, 10]), self.dump: 6, self.new: 0.1,
-            self.md5: 2, self.gen: 3, self.words: 2, self.hex: 2, self.read: 4, self.chal: 4,
+            self.digest: 3, self.gen: 3, self.words: 2, self.hex: 2, self.read: 4, self.chal: 4,
             self.wchal: 3, self.card: 3, self.prog: 3, self.no_call: 2}
         return weights.items()
+
+    def answer(self, line):
+        """The model's answer to one more line."""
+        name, account = line.split(" ")[0], self.front()
+        before = account and account.algorithm
+        self.answers.append(model.answer(self.table, line))
+        if name in ("reply", "renew") and self.answers[-1].startswith("ok"):
+            self.accepted[name, before, account.algorithm] += 1
+
+    def front(self):
+        """The account that the port with the turn waits for."""
+        return self.table.accounts[self.table.line[0][1]] if self.table.line else None
 
     def line(self):
         """One more line, made of the table as it is. Where nobody waits, mostly somebody comes first."""
@@ -77,6 +94,9 @@ class Day:
     def seed(self):
         return self.rng.choice([b"dog2", b"Lift1", b"ke1234", passwords.any_seed(self.rng)])
 
+    def algorithm(self):
+        return passwords.any_algorithm(self.rng)
+
     def room(self, length):
         """Around what a text of that length needs."""
         return self.rng.choice([length, length - 1, length + 1, 0, 64, self.rng.randrange(80), 8192])
@@ -84,17 +104,24 @@ class Day:
     def password(self):
         return "%016x" % self.rng.choice([0, 2**64 - 1, *[self.rng.getrandbits(64)] * 6])
 
-    def chained(self, seed, count):
-        """The password of some pass-phrase at that count; those below it are remembered."""
-        if not 0 < count < 100:
+    def chained(self, algorithm, seed, count):
+        """The password of some pass-phrase at that count; those below it are remembered. Now and then by any algorithm."""
+        if self.rng.random() < 0.1:
+            algorithm = self.rng.choice([*model.NAMES])
+        if algorithm not in model.NAMES or not 0 < count < 100:
             return self.password()
-        passed = model.chain(self.rng.choice(PHRASES), seed, count)
+        passed = model.chain(algorithm, self.rng.choice(PHRASES), seed, count)
         self.before.update(zip(passed[1:], passed))
         return "%016x" % passed[-1]
 
+    def new_values(self):
+        """Algorithm, count, seed and password for an account."""
+        algorithm, count, seed = self.algorithm(), self.count(), self.seed()
+        return algorithm, count, seed, self.chained(algorithm, seed, count)
+
     def reply_text(self):
         """The right reply of the port in front, as hex or words; another password; or no password."""
-        account = self.table.accounts[self.table.line[0][1]] if self.table.line else None
+        account = self.front()
         password = self.before.get(account.password) if account else None
         if password is None or self.rng.random() > self.right:
             if self.rng.random() < 0.5:
@@ -121,8 +148,7 @@ class Day:
         return "new"
 
     def enrol(self):
-        count, seed = self.count(), self.seed()
-        return call("enrol", self.any_id(), count, seed, self.chained(seed, count))
+        return call("enrol", self.any_id(), *self.new_values())
 
     def remove(self):
         return call("remove", self.id())
@@ -137,14 +163,13 @@ class Day:
         return call("leave", self.any_port())
 
     def challenge(self):
-        return call("challenge", self.port(), self.room(17))
+        return call("challenge", self.port(), self.room(self.rng.choice([17, 18])))
 
     def reply(self):
         return call("reply", self.port(), self.reply_text())
 
     def renew(self):
-        count, seed = self.count(), self.seed()
-        return call("renew", self.port(), count, seed, self.chained(seed, count), self.reply_text())
+        return call("renew", self.port(), *self.new_values(), self.reply_text())
 
     def tick(self):
         if self.long():
@@ -156,14 +181,15 @@ class Day:
 
     # calls that need no table
 
-    def md5(self):
+    def digest(self):
+        name = self.rng.choice(challenges.NAMES).decode()
         if self.long():
-            return call("md5", b"x" * self.rng.choice([4096, 4097, 100000]))
-        return call("md5", self.rng.randbytes(self.rng.choice([0, 55, 56, 64, self.rng.randrange(200)])))
+            return call(name, b"x" * self.rng.choice([4096, 4097, 100000]))
+        return call(name, self.rng.randbytes(self.rng.choice([0, 55, 56, 64, self.rng.randrange(200)])))
 
     def gen(self):
         count = passwords.any_count(self.rng) if self.long() else self.rng.choice([0, 1, 30, 10000, 65535])
-        return call("gen", passwords.any_phrase(self.rng), self.seed(), count)
+        return call("gen", self.algorithm(), passwords.any_phrase(self.rng), self.seed(), count)
 
     def words(self):
         return call("words", self.password(), self.room(self.rng.randrange(11, 30)))
@@ -178,12 +204,12 @@ class Day:
         return call("chal", challenges.any_challenge(self.rng))
 
     def wchal(self):
-        return call("wchal", self.seed(), self.count(), self.room(17))
+        return call("wchal", self.algorithm(), self.seed(), self.count(), self.room(self.rng.choice([17, 18])))
 
     def some_challenge(self):
         if self.rng.random() < 0.3:
             return challenges.any_challenge(self.rng)
-        return b"otp-md5 %d dog2\n" % self.rng.randrange(60)
+        return b"%s %d dog2\n" % (challenges.good_opening(self.rng), self.rng.randrange(60))
 
     def some_phrase(self):
         return passwords.any_phrase(self.rng) if self.rng.random() < 0.2 else PHRASES[0]
@@ -202,11 +228,11 @@ class Day:
 
     def no_call(self):
         """An empty line, a comment, or a good line with one thing wrong."""
-        line = self.rng.choice([self.join, self.gen, self.hex, self.tick, self.enrol, self.read])()
+        line = self.rng.choice([self.join, self.gen, self.hex, self.tick, self.enrol, self.read, self.wchal, self.renew])()
         words = line.split(" ")
         at = self.rng.randrange(len(words))
         changed = self.rng.choice(["", words[at] + " ", words[at] + "\r", words[at].upper(), "-", "x",
-                                   "65536", "8193", "100001", "-1", "+1", "1.0", "\0", "\xe9", "0" * 17,
+                                   "256", "65536", "8193", "100001", "-1", "+1", "1.0", "\0", "\xe9", "0" * 17,
                                    "9" * 30, words[at][:-1], words[at] + "0"])
         return self.rng.choice(["", "# " + line, " " + line, line + " ", line + " 0", line + "\r",
                                 " ".join(words[:-1]), line.replace(" ", "\t"), line.upper(),
@@ -219,18 +245,16 @@ def is_call(line):
 
 
 def script(seed, calls=1000):
-    """That many answered lines, with some that aren't between them: the lines, and the model's answers."""
+    """A day of that many answered lines, with some that aren't between them."""
     day = Day(seed)
-    lines, answers = [], []
-    while len(answers) < calls:
-        line = day.line()
-        lines.append(line)
-        if is_call(line):
-            answers.append(model.answer(day.table, line))
-    return lines, answers
+    while len(day.answers) < calls:
+        day.lines.append(day.line())
+        if is_call(day.lines[-1]):
+            day.answer(day.lines[-1])
+    return day
 
 
-def differences(program, lines, answers):
-    """Where the program answers the script otherwise than the model did, in a few lines each."""
-    numbered = [f"line {at}: {line}" for at, line in enumerate(lines, 1) if is_call(line)]
-    return harness.differences(numbered, harness.asked(program, lines), answers)
+def differences(program, day):
+    """Where the program answers the day's lines otherwise than the model did, in a few lines each."""
+    numbered = [f"line {at}: {line}" for at, line in enumerate(day.lines, 1) if is_call(line)]
+    return harness.differences(numbered, harness.asked(program, day.lines), day.answers)

@@ -27,14 +27,14 @@ def kept(seed, lines):
 
 def differs(seed):
     """Runs the script of a seed; whether some answer is not the model's."""
-    lines, answers = scripts.script(seed)
+    day = scripts.script(seed)
     try:
-        found = scripts.differences(PROGRAM, lines, answers)
+        found = scripts.differences(PROGRAM, day)
     except harness.Failed as failure:
         found = [str(failure)]
     if found:
         print(f"soak: script {seed}: {len(found)} differ, first\n  {found[0][:4000]}\n"
-              f"soak: the script is in {kept(seed, lines)}; make soak N=1 SEED={seed} runs it again")
+              f"soak: the script is in {kept(seed, day.lines)}; make soak N=1 SEED={seed} runs it again")
     return found != []
 
 

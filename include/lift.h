@@ -42,7 +42,15 @@ extern "C" {
 
 /* Which state of this header it is: 0 for the base, n after change request
  * R-n. */
-#define LIFT_VERSION 0
+#define LIFT_VERSION 1
+
+/* The algorithms by number. Any other number is refused as unknown (21); it is
+ * compared whole, so 257 isn't 1. In a text an algorithm is its name, `md5` or
+ * `sha1`, in lower case. */
+enum lift_algorithm {
+    LIFT_MD5 = 1,
+    LIFT_SHA1 = 2
+};
 
 /* The refusals, by the numbers of document 01, the rules of the build;
  * docs/GUIDE.md has for each what is wrong and what to do. The functions below
@@ -95,12 +103,12 @@ typedef struct {
     uint32_t refusal;
 } lift_written;
 
-/* What a challenge says: the count, the seed as the seed_len bytes at
- * text + seed_at, and how many bytes were used, the one after the seed
- * included; or a refusal. */
+/* What a challenge says: the algorithm by its number, the count, the seed as
+ * the seed_len bytes at text + seed_at, and how many bytes were used, the one
+ * after the seed included; or a refusal. */
 typedef struct {
     size_t seed_at, seed_len, used;
-    uint32_t count, refusal;
+    uint32_t count, algorithm, refusal;
 } lift_challenge;
 
 /* MD5 (RFC 1321) of text[0 .. text_len], 0 to 4,096 bytes: the 16 bytes of
@@ -110,15 +118,25 @@ typedef struct {
 lift_written lift_md5(const uint8_t *text, size_t text_len,
                       uint8_t *digest, size_t digest_len);
 
-/* The password for a pass-phrase, a seed and a count (RFC 2289 with MD5).
+/* SHA-1 (FIPS 180) of text[0 .. text_len], 0 to 4,096 bytes: the 20 bytes of
+ * the digest are written to digest[0 .. 20].
+ *   12  text_len is over 4,096
+ *   40  digest_len is under 20 */
+lift_written lift_sha1(const uint8_t *text, size_t text_len,
+                       uint8_t *digest, size_t digest_len);
+
+/* The password for a pass-phrase, a seed and a count (RFC 2289), under an
+ * algorithm: that of the challenge, as lift_read_challenge gives it.
  * The pass-phrase is bytes of any value; the seed is taken in either case.
  * The time grows with the count: a count of 9,999 hashes 10,000 times.
+ *   21  algorithm is neither LIFT_MD5 nor LIFT_SHA1
  *   10  phrase_len is under 10
  *   11  phrase_len is over 63
  *   23  seed_len is not 1 to 16
  *   24  a byte of the seed is no ASCII letter or digit
  *   13  count is over 9,999 */
-lift_reading lift_password(const uint8_t *phrase, size_t phrase_len,
+lift_reading lift_password(uint32_t algorithm,
+                           const uint8_t *phrase, size_t phrase_len,
                            const uint8_t *seed, size_t seed_len,
                            uint32_t count);
 
@@ -140,11 +158,11 @@ lift_written lift_write_hex(uint64_t password, uint8_t *buf, size_t buf_len);
  *   40  buf_len is under the length of this very text */
 lift_written lift_write_words(uint64_t password, uint8_t *buf, size_t buf_len);
 
-/* Reads a challenge from left to right, as `otp-md5 487 dog2` and a newline.
+/* Reads a challenge from left to right, as `otp-sha1 487 dog2` and a newline.
  * The text may be of any length; what stands after the byte that ends the
  * seed isn't read. A token ends before a space, tab, newline or the end.
  *   20  it does not start with `otp-`
- *   21  the rest of that token is not `md5`
+ *   21  the rest of that token is neither `md5` nor `sha1`
  *   22  no count of one to four digits without a leading zero
  *   23  the seed is not 1 to 16 bytes long
  *   24  a byte of the seed is no ASCII letter or digit
@@ -152,17 +170,19 @@ lift_written lift_write_words(uint64_t password, uint8_t *buf, size_t buf_len);
 lift_challenge lift_read_challenge(const uint8_t *text, size_t text_len);
 
 /* Writes a challenge, the seed in lower case, a newline at its end, to the
- * front of buf: 12 to 30 bytes.
+ * front of buf: 12 to 31 bytes.
+ *   21  algorithm is neither LIFT_MD5 nor LIFT_SHA1
  *   23  seed_len is not 1 to 16
  *   24  a byte of the seed is no ASCII letter or digit
  *   13  count is over 9,999
  *   40  buf_len is under the length of this very text */
-lift_written lift_write_challenge(const uint8_t *seed, size_t seed_len,
+lift_written lift_write_challenge(uint32_t algorithm,
+                                  const uint8_t *seed, size_t seed_len,
                                   uint32_t count, uint8_t *buf, size_t buf_len);
 
 /* Writes a card to the front of buf: a line for each count from the
  * challenge's down, each with count, hex, six words and a newline; at most
- * 52 bytes a line.
+ * 52 bytes a line. The passwords are by the challenge's algorithm.
  *   10, 11    the pass-phrase, as for lift_password
  *   20 to 25  the challenge, as for lift_read_challenge
  *   70  lines is not 1 to 99, or is over the challenge's count

@@ -19,11 +19,11 @@ static void print_text(const char *what, const uint8_t *text, lift_written resul
 
 int main(void)
 {
-    uint8_t buf[99 * 52], digest[16], key[8];
+    uint8_t buf[99 * 52], digest[20], key[8];
 
     lift_challenge asked = lift_read_challenge(BYTES(challenge));
     const uint8_t *seed = (const uint8_t *)challenge + asked.seed_at;
-    lift_reading made = lift_password(BYTES(phrase), seed, asked.seed_len, asked.count);
+    lift_reading made = lift_password(asked.algorithm, BYTES(phrase), seed, asked.seed_len, asked.count);
     print_text("words", buf, lift_write_words(made.password, buf, sizeof buf));
     print_text("hex", buf, lift_write_hex(made.password, buf, sizeof buf));
     print_text("short", buf, lift_write_hex(made.password, buf, 15));
@@ -39,8 +39,10 @@ int main(void)
     lift_bytes_of(made.password, key);
     printf("the eight bytes and back %d\n", lift_password_of(key) == made.password);
     lift_md5(key, sizeof key, digest, sizeof digest);
-    printf("digest %02x%02x..\n", digest[0], digest[1]);
-    print_text("challenge", buf, lift_write_challenge(seed, asked.seed_len, 98, buf, sizeof buf));
+    printf("md5 %02x%02x..\n", digest[0], digest[1]);
+    lift_sha1(key, sizeof key, digest, sizeof digest);
+    printf("sha1 %02x%02x..\n", digest[0], digest[1]);
+    print_text("challenge", buf, lift_write_challenge(asked.algorithm, seed, asked.seed_len, 98, buf, sizeof buf));
     print_text("card", buf, lift_write_card(BYTES(phrase), BYTES(challenge), 2, buf, sizeof buf));
     return 0;
 }

@@ -1,8 +1,9 @@
-/* Heimdal's libotp reading hex replies: an algorithm and a password as
- * sixteen hex digits a line on standard input. For each it prints what
- * otp_parse, the reader of its servers, makes of those digits, and whether
- * otp_verify_user_1 lets them in at an account that waits for that very
- * password. Ends with status 3 where the library isn't installed. */
+/* Heimdal's libotp, an answer for each line of standard input. An algorithm and
+ * a password as sixteen hex digits: what otp_parse, the reader of its servers,
+ * makes of those digits, and whether otp_verify_user_1 lets them in at an
+ * account that waits for that very password. An algorithm, a pass-phrase as hex
+ * digits, a seed and a count: the password. Ends with status 3 where the
+ * library isn't installed. */
 #include <stdint.h>
 #include <stdio.h>
 #include <string.h>
@@ -10,7 +11,7 @@
 
 #include "../symbol.h"
 
-enum { KEY = 8, MOST_LINE = 80, ABSENT = 3 };
+enum { KEY = 8, MOST_PHRASE = 63, MOST_LINE = 200, ABSENT = 3 };
 
 /* Heimdal's otp.h, as far as it is used here. */
 typedef struct {
@@ -44,12 +45,19 @@ static int find_library(void)
            find(library, "otp_parse", &parse) && find(library, "otp_verify_user_1", &verify);
 }
 
-static int key_of(const char *digits, unsigned char *key)
+/* As many bytes as there are pairs of digits; whether all are digits. */
+static int bytes_of(const char *digits, unsigned char *bytes)
 {
-    for (int i = 0; i < KEY; i++)
-        if (sscanf(digits + 2 * i, "%2hhx", &key[i]) != 1)
+    for (size_t i = 0; i < strlen(digits) / 2; i++)
+        if (sscanf(digits + 2 * i, "%2hhx", &bytes[i]) != 1)
             return 0;
     return 1;
+}
+
+static void print_key(const unsigned char *key)
+{
+    for (int i = 0; i < KEY; i++)
+        printf("%02x", key[i]);
 }
 
 static void print_read(const char *digits, algorithm *alg)
@@ -60,8 +68,7 @@ static void print_read(const char *digits, algorithm *alg)
         return;
     }
     printf("ok ");
-    for (int i = 0; i < KEY; i++)
-        printf("%02x", key[i]);
+    print_key(key);
 }
 
 /* The account's stored key is the password hashed once. */
@@ -73,20 +80,40 @@ static void print_login(const char *digits, const unsigned char *password, algor
     puts(verify(&waiting, digits) == 0 ? " in" : " out");
 }
 
+static int print_reply(const char *digits, algorithm *alg)
+{
+    unsigned char password[KEY];
+    if (strlen(digits) != 2 * KEY || !bytes_of(digits, password))
+        return 0;
+    print_read(digits, alg);
+    print_login(digits, password, alg);
+    return 1;
+}
+
+/* The library takes the pass-phrase as a text that ends in NUL. */
+static int print_password(const char *digits, const char *seed, unsigned count, algorithm *alg)
+{
+    unsigned char phrase[MOST_PHRASE + 1] = {0}, key[KEY];
+    if (!bytes_of(digits, phrase) || alg->init(key, (const char *)phrase, seed) != 0)
+        return 0;
+    for (unsigned n = 0; n < count; n++)
+        alg->next(key);
+    print_key(key);
+    puts("");
+    return 1;
+}
+
 int main(void)
 {
-    char line[MOST_LINE], name[8], digits[17];
-    unsigned char password[KEY];
+    char line[MOST_LINE], name[8], digits[2 * MOST_PHRASE + 1], seed[17];
+    unsigned count;
     if (!find_library())
         return ABSENT;
     while (fgets(line, sizeof line, stdin) != NULL) {
-        algorithm *alg = NULL;
-        if (sscanf(line, "%7s %16s", name, digits) == 2)
-            alg = find_alg(name);
-        if (alg == NULL || !key_of(digits, password))
+        int words = sscanf(line, "%7s %126s %16s %u", name, digits, seed, &count);
+        algorithm *alg = words == 2 || words == 4 ? find_alg(name) : NULL;
+        if (alg == NULL || !(words == 2 ? print_reply(digits, alg) : print_password(digits, seed, count, alg)))
             return 1;
-        print_read(digits, alg);
-        print_login(digits, password, alg);
     }
     return 0;
 }

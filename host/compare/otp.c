@@ -24,7 +24,7 @@ static void print_challenge(const char *count, const char *seed)
 
 static void print_password(const char *phrase, const char *seed, uint32_t count)
 {
-    lift_reading r = lift_password((const uint8_t *)phrase, strlen(phrase),
+    lift_reading r = lift_password(LIFT_MD5, (const uint8_t *)phrase, strlen(phrase),
                                    (const uint8_t *)seed, strlen(seed), count);
     if (r.refusal == 0)
         printf("ok %016" PRIx64 "\n", r.password);

@@ -10,7 +10,7 @@ KIT = {"bytes", "check", "io", "libc", "os"}
 # Kinds of file, once in each crate; every other name stands for one thing.
 KINDS = {"lib", "main", "laws", "inside", "examples"}
 # A standard's definition has the name of the code that does it.
-DEFINED = {("digests", "md5"), ("digests", "rounds")}
+DEFINED = {("digests", "md5"), ("digests", "sha1"), ("digests", "rounds")}
 # The crates of a table's fields: who takes a table apart lists them too.
 FIELDS = {"accounts", "line", "port"}
 

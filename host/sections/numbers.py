@@ -10,7 +10,8 @@ CHANGES = ROOT / "docs" / "CHANGES.md"
 
 def in_header(text):
     """lift.h's names, each with its number."""
-    return [(name, int(number)) for name, number in re.findall(r"^ +LIFT_(\w+) = (\d+),?$", text, re.M)]
+    listed = re.search(r"^enum lift_refusal \{\n(.*?)^\};$", text, re.M | re.S)
+    return [(name, int(number)) for name, number in re.findall(r"^ +LIFT_(\w+) = (\d+),?$", listed[1], re.M)]
 
 
 def in_code(text):

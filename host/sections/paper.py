@@ -1,7 +1,9 @@
 """Document 01's checked examples, with the answers that it gives."""
 import harness
 import model
-from harness import ROOT, call
+from harness import call
+from model import MD5
+from sections import recorded
 
 PHRASE = b"A_Valid_Pass_Phrase"
 CARD = b"99 85c43ee03857765b FOWL KID MASH DEAD DUAL OAF\n"
@@ -16,14 +18,19 @@ def words_example(number, text):
     return call("words", "%016x" % number, 32), written(text)
 
 
+def waiting(line, turn):
+    """The table with `Dog2` enrolled as account 1, that line and that turn."""
+    return f"ok A=1:{MD5}:99:0000000000000000:646f6732 P=0:0,0:0,0:0,0:0 L={line} T={turn}"
+
+
 EXAMPLES = [
     # passwords
-    (call("gen", PHRASE, b"AValidSeed", 99), "ok 85c43ee03857765b"),
-    (call("gen", b"123456789", b"a", 0), "no 10"),
-    (call("gen", b"1" * 64, b"a", 0), "no 11"),
-    (call("gen", PHRASE, b"LengthOfSeventeen", 99), "no 23"),
-    (call("gen", PHRASE, b"Length_Okay", 99), "no 24"),
-    (call("gen", PHRASE, b"A Seed", 99), "no 24"),
+    (call("gen", MD5, PHRASE, b"AValidSeed", 99), "ok 85c43ee03857765b"),
+    (call("gen", MD5, b"123456789", b"a", 0), "no 10"),
+    (call("gen", MD5, b"1" * 64, b"a", 0), "no 11"),
+    (call("gen", MD5, PHRASE, b"LengthOfSeventeen", 99), "no 23"),
+    (call("gen", MD5, PHRASE, b"Length_Okay", 99), "no 24"),
+    (call("gen", MD5, PHRASE, b"A Seed", 99), "no 24"),
     # numbers as words: places 0 (A), 5 (ADA), 2,047 (YOKE) and 2,044 (YEAR)
     words_example(0, b"A A A A A A"),
     words_example(1, b"A A A A A ADA"),
@@ -37,13 +44,13 @@ EXAMPLES = [
     (call("read", b"85C4 3EE0 3857 765B"), "ok 85c43ee03857765b"),
     (call("read", b"85C4 3EE0 3857 765"), "no 33"),
     # challenges
-    (call("chal", b"otp-md5 487 dog2\n"), "ok 487 12 4 17"),
+    (call("chal", b"otp-md5 487 dog2\n"), f"ok {MD5} 487 12 4 17"),
     (call("chal", b"otp-md5 487 dog2"), "no 25"),
     (call("chal", b"otp-md5 0487 dog2\n"), "no 22"),
-    (call("chal", b"otp-md5 1 abcdefghijklmnop\n"), "ok 1 10 16 27"),
+    (call("chal", b"otp-md5 1 abcdefghijklmnop\n"), f"ok {MD5} 1 10 16 27"),
     (call("chal", b"otp-md5 1 abcdefghijklmnopq\n"), "no 23"),
     (call("chal", b"otp-md5 1 Length_Okay\n"), "no 24"),
-    (call("chal", b"otp-md5 99 A Seed"), "ok 99 11 1 13"),
+    (call("chal", b"otp-md5 99 A Seed"), f"ok {MD5} 99 11 1 13"),
     # the card
     (call("card", PHRASE, b"otp-md5 99 AValidSeed\n", 1, 100), written(CARD)),
     (call("prog", PHRASE + b"\notp-md5 99 AValidSeed\n1\n"), "ok " + CARD.hex()),
@@ -51,14 +58,14 @@ EXAMPLES = [
     ("new", "ok"),
     ("tick 60", "ok"),
     ("dump", "ok A=- P=0:0,0:0,0:0,0:0 L=- T=0"),
-    (call("enrol", 1, 99, b"A Seed", "0" * 16), "no 24"),
-    (call("enrol", 1, 99, b"Dog2", "0" * 16), "ok"),
+    (call("enrol", 1, MD5, 99, b"A Seed", "0" * 16), "no 24"),
+    (call("enrol", 1, MD5, 99, b"Dog2", "0" * 16), "ok"),
     ("join 0 1", "ok"),
-    ("dump", "ok A=1:646f6732:99:0000000000000000 P=0:0,0:0,0:0,0:0 L=0:1 T=60"),
+    ("dump", waiting("0:1", 60)),
     ("tick 59", "ok"),
-    ("dump", "ok A=1:646f6732:99:0000000000000000 P=0:0,0:0,0:0,0:0 L=0:1 T=1"),
+    ("dump", waiting("0:1", 1)),
     ("tick 1", "ok"),
-    ("dump", "ok A=1:646f6732:99:0000000000000000 P=0:0,0:0,0:0,0:0 L=- T=0"),
+    ("dump", waiting("-", 0)),
 ]
 
 
@@ -78,9 +85,4 @@ def examples(driver):
 
 def scripts(driver):
     """Two recorded scripts with answers from elsewhere, which read document 01 alike."""
-    said = []
-    for name in ("base_a", "base_b"):
-        lines, answers = ((ROOT / "host" / "replay" / f"{name}.{kind}").read_text().splitlines()
-                          for kind in ("calls", "answers"))
-        said.append(hold_both_to(driver, lines, answers))
-    return "; ".join(said)
+    return "; ".join(hold_both_to(driver, *script) for script in recorded.scripts())

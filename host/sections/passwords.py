@@ -1,8 +1,9 @@
-"""From pass-phrase to password: MD5 and the generator through the driver."""
+"""From pass-phrase to password: the digests and the generator through the driver."""
 import random
 import string
 
 import harness
+import model
 from harness import ROOT, call
 
 GOOD = (string.ascii_letters + string.digits).encode()
@@ -14,15 +15,34 @@ def rows_of(algorithm):
     return [row.split("\t")[1:] for row in rows if row.startswith(algorithm + "\t")]
 
 
+def as_calls(algorithm, phrase, seed, count, digits, words):
+    """A row as calls with the RFC's answers: the password, and from count 1 on the card of that one line."""
+    password = digits.lower()
+    yield call("gen", algorithm, phrase.encode(), seed.encode(), count), f"ok {password}"
+    if count != "0":
+        challenge, line = b"otp-%s %s %s\n" % (model.NAMES[algorithm], count.encode(), seed.encode()), f"{count} {password} {words}\n"
+        yield call("card", phrase.encode(), challenge, 1, 52), f"ok {len(line)} {line.encode().hex()} clean"
+
+
 def appendix_c(driver):
     """The RFC's own answers, through the driver."""
-    rows = rows_of("md5")
-    lines = [call("gen", phrase.encode(), seed.encode(), count) for phrase, seed, count, *_ in rows]
-    harness.hold_to(lines, harness.asked(driver, lines), ["ok " + row[3].lower() for row in rows])
-    return f"{len(rows)} rows for MD5: the generator gives the RFC's hex"
+    rows = {name.decode(): [[number, *row] for row in rows_of(name.decode())] for number, name in model.NAMES.items()}
+    lines, wanted = zip(*[pair for found in rows.values() for row in found for pair in as_calls(*row)])
+    harness.hold_to(lines, harness.asked(driver, lines), wanted)
+    counts = ", ".join(f"{len(found)} rows for {name}" for name, found in rows.items())
+    return f"{counts}: the generator gives the RFC's hex, the card its hex and words"
 
 
-def md5_lengths(rng):
+def stored_rows(driver):
+    """What rt ci holds the program `vectors` to is the RFC's rows, in their order, with the hex in lower case."""
+    known = [name.decode() for name in model.NAMES.values()]
+    rows = [row.split("\t") for row in (ROOT / "host" / "vectors.tsv").read_text().splitlines()]
+    lines = ["\t".join([*row[:4], row[4].lower(), row[5]]) for row in rows if row[0] in known]
+    harness.hold_to(lines, (ROOT / "crates" / "vectors" / "stdout").read_text().splitlines(), lines)
+    return f"{len(lines)} rows for {' and '.join(known)}"
+
+
+def digest_lengths(rng):
     """0 to 300, around each multiple of 64 (the padding turns at 55 and 56), and past 4,096."""
     lengths = list(range(301))
     for blocks in range(5, 65):
@@ -31,12 +51,17 @@ def md5_lengths(rng):
     return lengths + [rng.randrange(4097) for _ in range(700)]
 
 
-def md5_at_random(driver):
+def digests_at_random(driver):
+    """Each digest at each of the lengths, on bytes of any value and on one byte over and over."""
     rng = random.Random(1321)
-    lines = [call("md5", rng.randbytes(length)) for length in md5_lengths(rng)]
-    lines += [call("md5", bytes([fill]) * length)
-              for fill in (0, 0x80, 0xff) for length in (1, 55, 56, 63, 64, 65, 119, 120, 4096)]
-    return harness.same_as_model(driver, lines)
+    texts = [rng.randbytes(length) for length in digest_lengths(rng)]
+    texts += [bytes([fill]) * length for fill in (0, 0x80, 0xff) for length in (1, 55, 56, 63, 64, 65, 119, 120, 4096)]
+    return harness.same_as_model(driver, [call(name.decode(), text) for name in model.NAMES.values() for text in texts])
+
+
+def any_algorithm(rng):
+    """One of the two mostly; now and then a number that is none's."""
+    return rng.choice([*model.NAMES] * 12 + [0, 3, 4, 128, 255])
 
 
 def any_phrase(rng):
@@ -64,19 +89,23 @@ def any_count(rng):
 
 def generator_at_random(driver):
     rng = random.Random(2289)
-    lines = [call("gen", any_phrase(rng), any_seed(rng), any_count(rng)) for _ in range(4000)]
-    lines += [call("gen", rng.randbytes(length), b"dog2", count)
-              for length in range(71) for count in (0, 1)]
-    lines += [call("gen", b"A_Valid_Pass_Phrase", bytes(rng.choices(GOOD, k=length)), 3)
-              for length in range(21)]
-    lines += [call("gen", b"A_Valid_Pass_Phrase", bytes([byte]), 0) for byte in range(256)]
+    lines = [call("gen", any_algorithm(rng), any_phrase(rng), any_seed(rng), any_count(rng)) for _ in range(5000)]
+    for algorithm in model.NAMES:
+        lines += [call("gen", algorithm, rng.randbytes(length), b"dog2", count)
+                  for length in range(71) for count in (0, 1)]
+        lines += [call("gen", algorithm, b"A_Valid_Pass_Phrase", bytes(rng.choices(GOOD, k=length)), 3)
+                  for length in range(21)]
+        lines += [call("gen", algorithm, b"A_Valid_Pass_Phrase", bytes([byte]), 0) for byte in range(256)]
     return harness.same_as_model(driver, lines)
 
 
 NO_CALLS = ["nonsense", "md5", "md5 6", "md5 616", "md5 6G", "md5 AB", "md5 61 61", "md5  61",
             "md5 61 ", " md5 61", "md5\t61", "md5 61\r", "MD5 61", "md5 --", "md5 0x61", "md5 -",
-            "gen - -", "gen - - -", "gen - - 65535", "gen - - 65536", "gen - - 007", "gen - - +1",
-            "gen - - 1 2", "gen - - 99999999999999999999999", "gen - - 1.0", "gen 6 - 1",
+            "sha1", "sha1 6", "sha1 61 61", "sha1 AB", "SHA1 61", "sha 61", "sha11 61", "sha1 -",
+            "gen 1 - -", "gen 1 - - -", "gen 1 - - 65535", "gen 1 - - 65536", "gen 1 - - 007", "gen 1 - - +1",
+            "gen 1 - - 1 2", "gen 1 - - 99999999999999999999999", "gen 1 - - 1.0", "gen 1 6 - 1",
+            "gen - - 1", "gen - - - 1", "gen +1 - - 1", "gen 256 - - 1", "gen 255 - - 1", "gen 002 - - 1", "gen sha1 - - 1",
+            "wchal 256 6464 1 40", "wchal - 6464 1 40", "wchal 0 6464 1 40", "wchal 6464 1 40",
             "md5 61\0", "md5 \xe9", "md5 61"]
 
 

@@ -1,11 +1,13 @@
 """The program `replay`: every call, through the proved crates as they are compiled."""
 import collections
+import itertools
 import subprocess
 
 import harness
 import model
 import scripts
 from harness import ROOT, Failed, call
+from sections import recorded as base
 from sections.passwords import NO_CALLS
 
 PROGRAM = ROOT / "target" / "bin" / "replay"
@@ -16,30 +18,38 @@ MOST = 1 << 20  # bytes of input
 def recorded(_driver):
     """The recorded scripts, answered to the byte."""
     sizes = []
-    for name in ("base_a", "base_b"):
-        lines, answers = ((ROOT / "host" / "replay" / f"{name}.{kind}").read_text().splitlines()
-                          for kind in ("calls", "answers"))
+    for lines, answers in base.scripts():
         harness.hold_to(lines, harness.asked(PROGRAM, lines), answers)
         sizes.append(len(lines))
     return f"{' and '.join(map(str, sizes))} calls: the recorded answers"
 
 
 def tally(lines, answers):
-    """How often each answer was given: by number, and accepted replies and renewals apart."""
+    """How often each answer was given, by number; and 21 by the call that gave it."""
     seen = collections.Counter()
     for line, answer in zip(lines, answers):
         name, words = line.split(" ")[0], answer.split(" ")
         seen[words[1] if words[0] == "no" else words[0]] += 1
-        if name in ("reply", "renew") and words[0] == "ok":
-            seen[name] += 1
+        if words[:2] == ["no", "21"]:
+            seen["21 by " + name] += 1
     return seen
 
 
 def hold_to_numbers(seen):
-    """Fails if some number of document 01 was never given."""
-    missing = [number for number in scripts.NUMBERS if not seen[str(number)]]
+    """Fails if some number of document 01 was never given, or 21 by some call that is told an algorithm."""
+    wanted = [*map(str, scripts.NUMBERS), *("21 by " + name for name in scripts.TOLD)]
+    missing = [number for number in wanted if not seen[number]]
     if missing:
-        raise Failed(f"never given: {missing}")
+        raise Failed(f"never given: {', '.join(missing)}")
+
+
+def hold_to_algorithms(accepted):
+    """Fails if no reply was accepted under some algorithm, or no renewal from one to another or to the same."""
+    wanted = [("reply", each, each) for each in model.NAMES] + [("renew", *each) for each in itertools.product(model.NAMES, repeat=2)]
+    missing = [each for each in wanted if not accepted[each]]
+    if missing:
+        raise Failed(f"never accepted: {missing}")
+    return ", ".join(f"{name} {before} to {after}: {accepted[name, before, after]}" for name, before, after in wanted)
 
 
 def stored(_driver):
@@ -54,23 +64,22 @@ def stored(_driver):
 
 def at_random(driver):
     """Each script on the program; its calls that are in C through the driver too."""
-    seen, in_c = collections.Counter(), 0
+    seen, accepted, calls, in_c = collections.Counter(), collections.Counter(), 0, 0
     for seed in SEEDS:
-        lines, answers = scripts.script(seed)
-        found = scripts.differences(PROGRAM, lines, answers)
+        day = scripts.script(seed)
+        found = scripts.differences(PROGRAM, day)
         if found:
             raise Failed(f"script {seed}: {len(found)} answers differ:\n  {found[0][:2000]}")
-        calls = [line for line in lines if scripts.is_call(line)]
-        seen += tally(calls, answers)
-        pairs = [pair for pair in zip(calls, answers) if pair[0].split(" ")[0] in harness.IN_C]
-        harness.hold_to([line for line, _ in pairs], harness.asked(driver, [line for line, _ in pairs]),
-                        [answer for _, answer in pairs])
-        in_c += len(pairs)
+        answered = list(zip(filter(scripts.is_call, day.lines), day.answers))
+        seen += tally(*zip(*answered))
+        accepted += day.accepted
+        lines, answers = zip(*[pair for pair in answered if pair[0].split(" ")[0] in harness.IN_C])
+        harness.hold_to(lines, harness.asked(driver, lines), answers)
+        calls, in_c = calls + len(answered), in_c + len(lines)
     hold_to_numbers(seen)
     numbers = ", ".join(f"{number}: {seen[str(number)]}" for number in scripts.NUMBERS)
-    return (f"{len(SEEDS)} scripts, {sum(seen.values()) - seen['reply'] - seen['renew']} calls, {in_c} of them "
-            f"through the driver too: same answers as the model ({seen['reply']} replies and {seen['renew']} "
-            f"renewals accepted; ok: {seen['ok']}, bad: {seen['bad']}, {numbers})")
+    return (f"{len(SEEDS)} scripts, {calls} calls, {in_c} of them through the driver too: same answers as the model "
+            f"(accepted, by algorithm, {hold_to_algorithms(accepted)}; ok: {seen['ok']}, bad: {seen['bad']}, {numbers})")
 
 
 def printed(stdin):
@@ -89,9 +98,10 @@ def filled(line):
 INPUTS = [
     b"", b"\n", b"\n\n\n", b"#", b"# new\n", b"new", b"new\n", b"\nnew", b"new\n\n", b"new\r\n", b"\r\n", b" ", b" \n",
     b"\0", b"\0\n", b"\xff\n", b"dump\ndump", b"tick 60\ndump\n", b"leave 0\nmd5 -\n", b"new\0\n", b"md5 61\0\n",
-    b"\n" * MOST, b"#" * MOST, b"x" * MOST, filled(b"new\n"), filled(b"md5 " + b"61" * 4096 + b"\n"),
-    filled(b"md5 " + b"61" * 4097 + b"\n"), b"md5 " + b"61" * ((MOST - 4) // 2), b"read " + b"20" * 500000 + b"\n",
-    b"reply 0 " + b"20" * 500000 + b"\n", b"gen " + b"61" * 200000 + b" " + b"61" * 300000 + b" 1\n",
+    b"\n" * MOST, b"#" * MOST, b"x" * MOST, filled(b"new\n"),
+    *(filled(name + b" " + b"61" * length + b"\n") for name in model.NAMES.values() for length in (4096, 4097)),
+    b"md5 " + b"61" * ((MOST - 4) // 2), b"read " + b"20" * 500000 + b"\n",
+    b"reply 0 " + b"20" * 500000 + b"\n", b"gen 2 " + b"61" * 200000 + b" " + b"61" * 300000 + b" 1\n",
     b"prog " + b"0a" * 257 + b"\n", b"prog " + b"0a" * 500000 + b"\n", b"#\n" * (MOST // 2), b"new\n" * 5000,
 ]
 
@@ -109,20 +119,22 @@ def inputs(_driver):
 
 def no_calls(_driver):
     """Lines that are no call are `bad`, and the table stays as it was."""
-    lines = [call("enrol", 1, 9, b"dog2", "0" * 16), "join 1 1"]
+    lines = [call("enrol", 1, model.SHA1, 9, b"dog2", "0" * 16), "join 1 1"]
     for line in NO_CALLS + MORE_NO_CALLS:
         lines += [line, "dump"]
     return harness.same_as_model(PROGRAM, lines)
 
 
 MORE_NO_CALLS = [
-    "new 1", "new ", " new", "New", "ne", "newt", "enrol", "enrol 2 9 6464", "enrol 2 9 6464 0000000000000000 0",
-    "enrol 2 9 6464 000000000000000", "enrol 2 9 6464 00000000000000000", "enrol 2 9 6464 000000000000000G",
-    "enrol 2 9 6464 000000000000000A", "enrol 65536 9 6464 0000000000000000", "enrol 2 65536 6464 0000000000000000",
-    "enrol -1 9 6464 0000000000000000", "enrol 2 9 646 0000000000000000", "enrol 2 9  0000000000000000",
+    "new 1", "new ", " new", "New", "ne", "newt", "enrol", "enrol 2 1 9 6464", "enrol 2 1 9 6464 0000000000000000 0",
+    "enrol 2 1 9 6464 000000000000000", "enrol 2 1 9 6464 00000000000000000", "enrol 2 1 9 6464 000000000000000G",
+    "enrol 2 1 9 6464 000000000000000A", "enrol 65536 1 9 6464 0000000000000000", "enrol 2 1 65536 6464 0000000000000000",
+    "enrol -1 1 9 6464 0000000000000000", "enrol 2 1 9 646 0000000000000000", "enrol 2 1 9  0000000000000000",
+    "enrol 2 256 9 6464 0000000000000000", "enrol 2 sha1 9 6464 0000000000000000", "enrol 2 9 6464 0000000000000000",
     "remove", "remove 65536", "remove x", "remove 0x1", "join 1", "join 1 1 1", "join 65536 1", "join 1  1",
     "leave", "leave -", "leave 1 ", "challenge 1", "challenge 1 8193", "challenge 65536 1", "challenge 1 1.0",
-    "reply 1", "reply 1 0", "reply 1 20 ", "reply 1 zz", "renew 1 9 6464 0000000000000000",
-    "renew 1 9 6464 - 20", "renew 1 9 6464 0000000000000000 2", "tick", "tick 100001", "tick -1", "tick 1e3",
+    "reply 1", "reply 1 0", "reply 1 20 ", "reply 1 zz", "renew 1 1 9 6464 0000000000000000",
+    "renew 1 1 9 6464 - 20", "renew 1 1 9 6464 0000000000000000 2", "renew 1 256 9 6464 0000000000000000 20",
+    "renew 1 9 6464 0000000000000000 20", "tick", "tick 100001", "tick -1", "tick 1e3",
     "tick 99999999999999999999999999", "tick 18446744073709551617", "dump 0", "DUMP", "dumps", "prog", "prog 0",
-    "words 0 10", "words 0000000000000000", "hex 0000000000000000 8193", "hex - 16", "wchal 6464 1", "card - - 1"]
+    "words 0 10", "words 0000000000000000", "hex 0000000000000000 8193", "hex - 16", "wchal 1 6464 1", "card - - 1"]

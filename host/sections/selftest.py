@@ -1,12 +1,15 @@
 """That the comparison can fail: tests of the tests."""
+import collections
 import pathlib
 import sys
 
 import harness
+import model
+import scripts
 import tidy
 from compare import claims
 from harness import Failed, call
-from sections import believed, commands, compared, docs, house, numbers, promises, refused, terminal, tools
+from sections import believed, challenges, commands, compared, docs, house, numbers, promises, refused, replay, terminal, tools
 
 sys.path.append(str(harness.ROOT / "bench"))
 
@@ -71,6 +74,24 @@ def gate_can_fail(driver):
     if not all(found):
         raise Failed(f"of the five, as they should be: {found}")
     return f"{len(found)} pairs of commands: a flag in one of them is reported, and nothing else"
+
+
+def without_each(check, whole):
+    """A run that covers what it should; then one without each part of it."""
+    counted = collections.Counter(whole)
+    return [not fails(check, counted), *(fails(check, collections.Counter(set(whole) - {part})) for part in whole)]
+
+
+def coverage_can_fail(driver):
+    """A run in which some refusal never came, or no reply was accepted under some algorithm, is found; so is one with few challenges."""
+    numbers_given = [*map(str, scripts.NUMBERS), *(f"21 by {name}" for name in scripts.TOLD)]
+    accepted = [("reply", 1, 1), ("reply", 2, 2), ("renew", 1, 1), ("renew", 1, 2), ("renew", 2, 1), ("renew", 2, 2)]
+    read = [f"ok {number} 1 10 1 12" for number in model.NAMES] * 2000 + [f"no {number}" for number in range(20, 26)]
+    found = [*without_each(replay.hold_to_numbers, numbers_given), *without_each(replay.hold_to_algorithms, accepted),
+             not fails(challenges.enough, read), *(fails(challenges.enough, read[at:][:len(read) - 1]) for at in (0, 1))]
+    if not all(found):
+        raise Failed(f"of the {len(found)}, as they should be: {found}")
+    return f"{len(found)} runs: what one lacks is reported, and nothing else"
 
 
 def drawings():

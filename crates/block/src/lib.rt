@@ -50,7 +50,7 @@ fn byte(order: Order, m: &[u8], i: usize) -> u8
 }
 
 // Four bytes as they stand in a message, as a word.
-fn joined(order: Order, b0: u8, b1: u8, b2: u8, b3: u8) -> u32
+pub fn joined(order: Order, b0: u8, b1: u8, b2: u8, b3: u8) -> u32
     ensures { λ r. ⌜ r ≡ spec.word order b0 b1 b2 b3 ⌝ }
 {
     match order {

@@ -2,7 +2,7 @@
 -- them. That the texts are RFC 2289's is not said here: the definitions say it, and the vectors. That every table call does just what the
 -- written steps say is the promise of each call of `login`.
 use Prim.Native.Nat.{ℕ, _+_, _-_, _^_, _≤_, _<_}
-use mathlib.Core.Path.{_≡_}
+use mathlib.Core.Path.{_≡_, _∙_}
 use mathlib.Core.Bool.{true, false}
 use mathlib.Core.List.{List, [], _∷_, _++_, map}
 use mathlib.Core.Logic.{_↔_}
@@ -14,11 +14,13 @@ use Rattle.text.specs.Kinds.{lowerOf}
 use Rattle.text.specs.Scan.{tokens, unspaced}
 use Rattle.text.specs.Put.{Writes}
 use Rattle.password.specs.PhraseAndSeed.{phraseChecked, seedChecked}
-use Rattle.password.specs.Password.{Algorithm, password, generated}
-use Rattle.password.specs.Laws.{generated-good}
+use Rattle.password.specs.declared.algorithm.Algorithm.{Algorithm}
+use Rattle.password.specs.Algorithm.{algorithmNumber, algorithmName}
+use Rattle.password.specs.Password.{password, generated}
+use Rattle.password.specs.Laws.{generated-good, generated-numbered}
 use Rattle.challenge.specs.declared.reading.Challenge.{Challenge}
 use Rattle.text.specs.Counts.{widthOf, decimalOf}
-use Rattle.challenge.specs.Challenges.{challengeOf, seedOf, challengeText}
+use Rattle.challenge.specs.Challenges.{challengeOf, algorithmOf, seedOf, challengeText}
 use Rattle.readback.specs.ChallengeRead.{written-read, written-seed-read}
 use Rattle.hex.specs.Hex.{hexOf}
 use Rattle.sixwords.specs.Spelling.{sixWordsOf, wordsOf}
@@ -40,8 +42,8 @@ pub words-read-back : (p : ℕ) → p < 2 ^ 64 → (b b′ : List ℕ) (n : ℕ)
 words-read-back p h b b′ n w = Laws.words-read-back p b b′ n h w
 
 -- Every password that the generator gives is such a number.
-pub generated-fits : (phrase seed : List ℕ) (count : ℕ) → password Algorithm.md5 phrase seed count < 2 ^ 64
-generated-fits phrase seed count = password-bound Algorithm.md5 phrase seed count
+pub generated-fits : (algorithm : Algorithm) (phrase seed : List ℕ) (count : ℕ) → password algorithm phrase seed count < 2 ^ 64
+generated-fits algorithm phrase seed count = password-bound algorithm phrase seed count
 
 -- "six words of one to four letters, in either case, in a reply of at most 128 bytes, are accepted exactly if some password is written with
 -- them", and then as that password.
@@ -61,27 +63,32 @@ pub hex-accepted-as : (text : List ℕ) → length text ≤ 128 → sixWords (to
     → (p : ℕ) → (readingOf text ≡ Reading.Password p) ↔ ((p < 2 ^ 64) × (map lowerOf (unspaced text) ≡ hexOf p))
 hex-accepted-as text h e p = Laws.hex-accepted text h e p
 
--- A challenge that is written is read back: the count, the seed in lower case, and all its bytes.
-pub challenge-read-back : (seed : List ℕ) (count : ℕ) → seedChecked seed ≡ Checked.Good → count ≤ 9999
-    → (challengeOf (challengeText seed count) ≡ Challenge.Read count (9 + widthOf count) (length seed) (length (challengeText seed count)))
-    × (seedOf (challengeText seed count) ≡ map lowerOf seed)
-challenge-read-back seed count good low = (written-read seed count good low, written-seed-read seed count good low)
+-- A challenge that is written is read back: the algorithm, the count, the seed in lower case, and all its bytes. The seed starts behind
+-- `otp-`, the algorithm's name, the count and two spaces.
+pub challenge-read-back : (algorithm : Algorithm) (seed : List ℕ) (count : ℕ) → seedChecked seed ≡ Checked.Good → count ≤ 9999 →
+    let text = challengeText algorithm seed count in
+    (challengeOf text ≡ Challenge.Read algorithm count (6 + length (algorithmName algorithm) + widthOf count) (length seed) (length text))
+    × (seedOf text ≡ map lowerOf seed)
+challenge-read-back algorithm seed count good low = (written-read algorithm seed count good low, written-seed-read algorithm seed count good low)
 
--- The generator gives the password of this pass-phrase, seed and count, for all that it takes.
-pub generator-gives : (phrase seed : List ℕ) (count : ℕ) → phraseChecked phrase ≡ Checked.Good → seedChecked seed ≡ Checked.Good → count ≤ 9999
-    → generated Algorithm.md5 phrase seed count ≡ Reading.Password (password Algorithm.md5 phrase seed count)
-generator-gives phrase seed count long good low = generated-good Algorithm.md5 phrase seed count long good low
+-- The generator gives the password of this algorithm, pass-phrase, seed and count, for all that it takes. The algorithm is told by its number.
+pub generator-gives : (algorithm : Algorithm) (phrase seed : List ℕ) (count : ℕ)
+    → phraseChecked phrase ≡ Checked.Good → seedChecked seed ≡ Checked.Good → count ≤ 9999
+    → generated (algorithmNumber algorithm) phrase seed count ≡ Reading.Password (password algorithm phrase seed count)
+generator-gives algorithm phrase seed count long good low =
+    generated-numbered algorithm phrase seed count ∙ generated-good algorithm phrase seed count long good low
 
--- A card's lines: what stands on each, before and after it, and that its hex and its words read as the password that the generator gives at
+-- A card's lines, by the algorithm that the challenge names: what stands on each, before and after it, and that its hex and its words read as the password that the generator gives at
 -- that count.
 pub card-lines : (phrase challenge : List ℕ) (k : ℕ) → cardChecked phrase challenge k ≡ Checked.Good → (i : ℕ) → i < k →
     let n = countOf (challengeOf challenge) in
-    let passwordAt = password Algorithm.md5 phrase (seedOf challenge) in
+    let algorithm = algorithmOf (challengeOf challenge) in
+    let passwordAt = password algorithm phrase (seedOf challenge) in
     let p = passwordAt (n - i) in
     (cardOf phrase challenge k
     ≡ cardText passwordAt n i
     ++ (decimalOf (n - i) ++ 32 ∷ [] ++ hexOf p ++ 32 ∷ [] ++ wordsOf p ++ 10 ∷ [])
     ++ cardText passwordAt (n - i - 1) (k - i - 1))
-    × (readingOf (hexOf p) ≡ generated Algorithm.md5 phrase (seedOf challenge) (n - i))
-    × (readingOf (wordsOf p) ≡ generated Algorithm.md5 phrase (seedOf challenge) (n - i))
+    × (readingOf (hexOf p) ≡ generated (algorithmNumber algorithm) phrase (seedOf challenge) (n - i))
+    × (readingOf (wordsOf p) ≡ generated (algorithmNumber algorithm) phrase (seedOf challenge) (n - i))
 card-lines phrase challenge k e i h = CardLaws.card-lines phrase challenge k e i h

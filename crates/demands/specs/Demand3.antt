@@ -7,16 +7,18 @@ use lib.ListN.{length}
 use Rattle.refusal.specs.declared.Checked.{Checked}
 use Rattle.text.specs.Tests.{every}
 use Rattle.password.specs.PhraseAndSeed.{phraseChecked}
-use Rattle.password.specs.Password.{Algorithm, password}
-use Rattle.table.specs.Table.{State, accountOf}
-use Rattle.table.specs.Steps.{join, challengeFor}
+use Rattle.password.specs.Algorithm.{numbered, algorithmIn}
+use Rattle.password.specs.Password.{numberOf, password}
+use Rattle.table.specs.Table.{State, accountOf, turnId}
+use Rattle.table.specs.declared.Replied.{Replied}
+use Rattle.table.specs.Steps.{join, renew, challengeFor}
 use Rattle.reached.specs.Calls.{Call, after, run}
 use Rattle.reached.specs.InTurn.{Reached, ticks, quiet, quietMeanwhile, HasTurn, TurnBegins}
-use Rattle.reached.specs.Day.{Day}
+use Rattle.reached.specs.Day.{passwordOf, Day}
 use Rattle.grounds.specs.TurnComes.{turn-starts, wait-ends, all-meanwhile, joined-waits, reached-run, reached-after}
 use Rattle.grounds.specs.Keeps.{made}
 use Rattle.grounds.specs.Owned.{call-keeps, turn-keeps, challenge-kept}
-use Rattle.grounds.specs.Answering.{day, day-later}
+use Rattle.grounds.specs.Answering.{day, day-later, renewed-stored}
 
 -- "From a fresh table, after any calls, a port that joins successfully has its turn begin by the 180th tick, if its account
 -- isn't removed and the port only looks at its challenge meanwhile, whatever other ports do."
@@ -51,10 +53,10 @@ turn-stays-own s r p i t during q u = turn-keeps p i during s (made s r) t q u
 
 -- "If the account isn't used up, and its stored password is what this pass-phrase, seed and count give, then the generator's reply to
 -- the challenge, in hex or words, is accepted in that turn." The pass-phrase is one that the generator takes, and the buffer for the
--- challenge has room for it.
+-- challenge has room for it. The algorithm is the account's own, whichever that is; the challenge names it.
 pub reply-is-accepted : (s : State) → Reached s → (p i : ℕ) → HasTurn p i s → (phrase : List ℕ) → phraseChecked phrase ≡ Checked.Good
     → 1 < accountOf i s .count
-    → accountOf i s .password ≡ password Algorithm.md5 phrase (accountOf i s .seed) (accountOf i s .count)
+    → accountOf i s .password ≡ passwordOf phrase (accountOf i s) (accountOf i s .count)
     → (buffer : List ℕ) → length (challengeFor s) ≤ length buffer
     → Day p i phrase buffer s s
 reply-is-accepted s r p i t phrase long unused stored buffer room = day p i phrase buffer s (made s r) t unused long stored room
@@ -73,9 +75,16 @@ challenge-stays s r p i t during q u = challenge-kept p i during s (made s r) t 
 -- challenge that was read before is accepted.
 pub later-reply-is-accepted : (s : State) → Reached s → (p i : ℕ) → HasTurn p i s → (phrase : List ℕ) → phraseChecked phrase ≡ Checked.Good
     → 1 < accountOf i s .count
-    → accountOf i s .password ≡ password Algorithm.md5 phrase (accountOf i s .seed) (accountOf i s .count)
+    → accountOf i s .password ≡ passwordOf phrase (accountOf i s) (accountOf i s .count)
     → (buffer : List ℕ) → length (challengeFor s) ≤ length buffer
     → (during : List Call) → every (quiet p i) during ≡ true → HasTurn p i (run during s)
     → Day p i phrase buffer s (run during s)
 later-reply-is-accepted s r p i t phrase long unused stored buffer room during q u =
     day-later p i phrase buffer s (made s r) t unused long stored room during q u
+
+-- R-1, "renewal may change it": after an accepted renewal, also one to another algorithm, whose new password is what a pass-phrase gives with the
+-- new algorithm, seed and count, the account's stored password is what `reply-is-accepted` asks for in a later turn.
+pub renewal-begins-a-day : (p n number count : ℕ) (seed new text : List ℕ) (s : State) → renew p number count seed new text s .answer ≡ Replied.Accepted n
+    → (phrase : List ℕ) → numberOf new ≡ password (algorithmIn (numbered number)) phrase seed count
+    → (let room = accountOf (turnId s) (renew p number count seed new text s .state) in room .password ≡ passwordOf phrase room (room .count))
+renewal-begins-a-day p n number count seed new text s e phrase given = renewed-stored p n number count seed new text s e phrase given

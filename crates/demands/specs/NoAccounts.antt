@@ -6,6 +6,7 @@ use lib.ListN.{length}
 use Rattle.refusal.specs.declared.Refusal.{Refusal}
 use Rattle.refusal.specs.declared.Checked.{Checked}
 use Rattle.refusal.specs.Checks.{unless, inOrder}
+use Rattle.password.specs.Algorithm.{numbered, algorithmChecked}
 use Rattle.password.specs.PhraseAndSeed.{seedChecked}
 use Rattle.line.specs.Line.{empty}
 use Rattle.port.specs.Port.{cooled}
@@ -37,8 +38,8 @@ nobody-in-line s r none =
     let nobody = nobody-waits s (made s r) none in
     λ i. record { places = nobody i; turn = empty-line-turn-0 s r nobody i }
 
--- Enrol's own checks, 50, 51, 23 and 24: no id is taken and no table full.
-abbrev pub ownChecks : ℕ → ℕ → List ℕ → Checked
+-- Enrol's own checks, 50, 51, 21, 23 and 24: no id is taken and no table full.
+abbrev pub ownChecks : ℕ → ℕ → ℕ → List ℕ → Checked
 ownChecks id number count seed = inOrder (idGiven id ∷ countWithin count ∷ algorithmChecked (numbered number) ∷ seedChecked seed ∷ [])
 
 -- 55 for a port over 3, otherwise that refusal.

@@ -7,6 +7,7 @@ use lib.ListN.{length}
 use Rattle.refusal.specs.declared.Refusal.{Refusal}
 use Rattle.refusal.specs.declared.Checked.{Checked}
 use Rattle.refusal.specs.Checks.{inOrder}
+use Rattle.password.specs.Algorithm.{numbered, algorithmChecked}
 use Rattle.password.specs.PhraseAndSeed.{seedChecked}
 use Rattle.line.specs.declared.Place.{Place}
 use Rattle.accounts.specs.Accounts.{countWithin}
@@ -31,8 +32,8 @@ four-in-line s r = at-most-four (s .line) (made s r .standing)
 pub empty-line-turn-0 : (s : State) → Reached s → s .line .places ≡ [] → s .line .turn ≡ 0
 empty-line-turn-0 s r e = subst (λ (places : List Place). TurnRight places (s .line .turn)) e (made s r .standing .turn)
 
--- What Enrol checks before 53: 50, 51, 23, 24, 52.
-abbrev pub beforeFull : ℕ → ℕ → List ℕ → State → Checked
+-- What Enrol checks before 53: 50, 51, 21, 23, 24, 52.
+abbrev pub beforeFull : ℕ → ℕ → ℕ → List ℕ → State → Checked
 beforeFull id number count seed s = inOrder (idGiven id ∷ countWithin count ∷ algorithmChecked (numbered number) ∷ seedChecked seed ∷ idNew id s ∷ [])
 
 -- "53 is given exactly when 32 accounts are there", where the checks before it find nothing wrong.

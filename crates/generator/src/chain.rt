@@ -1,30 +1,41 @@
 // One step of the chain.
 ghost use mathlib.Core.Path.{_≡_};
-ghost use Prim.Native.Nat.{_<_};
-ghost use Rattle.digests.specs.Padding.{word, little};
+ghost use mathlib.Core.List.{_++_};
+ghost use Rattle.digests.specs.Words.{bytes4};
 ghost use Rattle.password.specs.Password as spec;
-use crate::fold::folded;
-use md5::compress::compress_eight;
+use crate::fold::folded_md5;
+use crate::fold::folded_sha1;
+use block::joined;
+use digests::Order;
 use password::algorithm::Algorithm;
+use password::eight_bytes::bytes_of;
 
-// Four bytes as a word of the block, low-order byte first.
-fn low_word(b0: u64, b1: u64, b2: u64, b3: u64) -> u32
-    requires { ⌜ (b0 < 256) × (b1 < 256) × (b2 < 256) × (b3 < 256) ⌝ }
-    ensures { λ r. ⌜ r ≡ word little b0 b1 b2 b3 ⌝ }
+// The first word of the block, and the second.
+struct Words(u32, u32);
+
+// The 8 bytes of a password as two words.
+fn words_of(order: Order, p: u64) -> Words
+    ensures { λ r. ⌜ bytes4 order (r .0) ++ bytes4 order (r .1) ≡ spec.bytesOf p ⌝ }
 {
-    (b0 + b1 * 256 + b2 * 65536 + b3 * 16777216) as u32
+    let b = bytes_of(p);
+    Words(
+        joined(order, b[0], b[1], b[2], b[3]),
+        joined(order, b[4], b[5], b[6], b[7]),
+    )
 }
 
 // The password one count up: the folded hash of the 8 bytes.
 pub fn step(algorithm: Algorithm, p: u64) -> u64
     ensures { λ r. ⌜ r ≡ spec.hash algorithm (spec.bytesOf p) ⌝ }
 {
-    let first = low_word(
-        (p >> 56) % 256,
-        (p >> 48) % 256,
-        (p >> 40) % 256,
-        (p >> 32) % 256,
-    );
-    let second = low_word((p >> 24) % 256, (p >> 16) % 256, (p >> 8) % 256, p % 256);
-    folded(compress_eight(first, second))
+    match algorithm {
+        Algorithm::Md5 => {
+            let w = words_of(Order::Little, p);
+            folded_md5(md5::compress::compress_eight(w.0, w.1))
+        }
+        Algorithm::Sha1 => {
+            let w = words_of(Order::Big, p);
+            folded_sha1(sha1::compress::compress_eight(w.0, w.1))
+        }
+    }
 }

@@ -1,12 +1,14 @@
-// The fold of a digest.
+// The fold of a digest: two words, each written low-order byte first, as one number.
 ghost use mathlib.Core.Path.{_≡_};
 ghost use mathlib.Core.List.{_++_};
-ghost use Rattle.digests.specs.Md5 as Md5;
+ghost use Rattle.digests.specs.declared.Order.{Order};
+ghost use Rattle.digests.specs.Words.{bytes4};
 ghost use Rattle.password.specs.Password as spec;
-ghost use Rattle.generator.specs.Inside.{high4};
+ghost use Rattle.generator.specs.Inside.{high4, md5Bytes};
+use digests::FiveWords;
 use digests::State;
 
-// A register's four bytes as a number, first byte most significant. MD5 writes the low-order byte first.
+// A word's four bytes, low-order byte first, as a number with the first most significant.
 fn read_high(x: u32) -> u64
     ensures { λ r. ⌜ r ≡ high4 x ⌝ }
 {
@@ -14,9 +16,23 @@ fn read_high(x: u32) -> u64
     (y % 256) * 16777216 + (y / 256 % 256) * 65536 + (y / 65536 % 256) * 256 + y / 16777216 % 256
 }
 
-// The digest in the registers, folded: bytes 0 to 7 with bytes 8 to 15 are A with C and B with D.
-pub fn folded(q: State) -> u64
-    ensures { λ r. ⌜ r ≡ spec.numberOf (spec.fold (Md5.bytes4 (q .a) ++ Md5.bytes4 (q .b) ++ Md5.bytes4 (q .c) ++ Md5.bytes4 (q .d))) ⌝ }
+// Two words' eight bytes as the number of a password.
+fn number_of_words(x: u32, y: u32) -> u64
+    ensures { λ r. ⌜ r ≡ spec.numberOf (bytes4 Order.Little x ++ bytes4 Order.Little y) ⌝ }
 {
-    read_high(q.a ^ q.c) * 4294967296 + read_high(q.b ^ q.d)
+    read_high(x) * 4294967296 + read_high(y)
+}
+
+// MD5's digest in the registers, folded: bytes 0 to 7 with bytes 8 to 15 are A with C and B with D.
+pub fn folded_md5(q: State) -> u64
+    ensures { λ r. ⌜ r ≡ spec.numberOf (spec.fold (md5Bytes q)) ⌝ }
+{
+    number_of_words(q.a ^ q.c, q.b ^ q.d)
+}
+
+// SHA-1's five words, folded.
+pub fn folded_sha1(h: FiveWords) -> u64
+    ensures { λ r. ⌜ r ≡ spec.numberOf (spec.foldWords h) ⌝ }
+{
+    number_of_words(h.a ^ h.c ^ h.e, h.b ^ h.d)
 }

@@ -8,8 +8,8 @@ ghost use Rattle.text.specs.Put.{Put};
 ghost use Rattle.password.specs.Password as spec;
 ghost use Rattle.generator.specs.Inside.{chained};
 use crate::chain::step;
-use crate::fold::folded;
-use md5::compress::registers;
+use crate::fold::folded_md5;
+use crate::fold::folded_sha1;
 use password::algorithm::Algorithm;
 use password::algorithm::Named;
 use password::algorithm::numbered;
@@ -29,7 +29,10 @@ fn hash(algorithm: Algorithm, m: &[u8]) -> u64
     requires { ⌜ length (now m) ≤ 4096 ⌝ }
     ensures { λ r. ⌜ r ≡ spec.hash algorithm (now (m .entry)) ⌝ }
 {
-    folded(registers(m))
+    match algorithm {
+        Algorithm::Md5 => folded_md5(md5::compress::registers(m)),
+        Algorithm::Sha1 => folded_sha1(sha1::compress::registers(m)),
+    }
 }
 
 // What is hashed at count 0: the seed in lower case, followed by the pass-phrase.

@@ -1,9 +1,9 @@
 -- In a port's turn the challenge is written and read, the generator answers it, and the reply is accepted, at once or later in the turn.
-use Prim.Native.Nat.{ℕ, suc, _+_, _-_, _≤_, _<_}
+use Prim.Native.Nat.{ℕ, zero, suc, _+_, _-_, _≤_, _<_}
 use native.Mathlib.Omega.{arith}
 use mathlib.Core.Path.{_≡_, refl, sym, ap, ap₂, _∙_, subst}
 use mathlib.Core.Bool.{Bool, true, false, true≢false, cond, _||_}
-use mathlib.Core.List.{List, [], _∷_, map}
+use mathlib.Core.List.{List, [], _∷_, _++_, map}
 use borrow.Author.Tests.{le-leb, le-ltb, lt-leb, leb-true}
 use lib.Dec.{leb}
 use lib.ListN.{length, take, drop}
@@ -11,14 +11,14 @@ use lib.Seq.{take-at}
 use Rattle.refusal.specs.declared.Checked.{Checked}
 use Rattle.refusal.specs.declared.Reading.{Reading}
 use Rattle.text.specs.Kinds.{isUpper, isLower, isLetter, isDigit, lowerOf}
-use Rattle.text.specs.Tests.{every, both}
+use Rattle.text.specs.Tests.{every, cases, both, second-fails}
 use Rattle.text.specs.Put.{front}
 use Rattle.password.specs.PhraseAndSeed.{phraseChecked, plain, seedChecked}
 use Rattle.password.specs.declared.algorithm.Algorithm.{Algorithm}
-use Rattle.password.specs.Algorithm.{algorithmNumber, algorithmName}
+use Rattle.password.specs.Algorithm.{algorithmNumber, algorithmName, numbered, algorithmIn}
 use Rattle.password.specs.Laws.{generated-good, generated-numbered}
 use Rattle.password.specs.Bounds.{password-bound}
-use Rattle.password.specs.Password.{bytesOf, hash, password, generated}
+use Rattle.password.specs.Password.{numberOf, bytesOf, hash, password, generated}
 use Rattle.text.specs.Counts.{widthOf}
 use Rattle.challenge.specs.Challenges.{challengeOf, seedOf, challengeWrittenBy}
 use Rattle.readback.specs.ChallengeRead.{written-read, written-seed-read}
@@ -39,7 +39,7 @@ use Rattle.reached.specs.Day.{passwordOf, Accepts, Day}
 use Rattle.reached.specs.Made.{isKept, Made}
 use Rattle.grounds.specs.Keeps.{account-good, made-run}
 use Rattle.grounds.specs.Owned.{turn-there, turn-keeps, challenge-kept}
-use Rattle.grounds.specs.Replies.{accepted-account, turn-checked, reply-accepted}
+use Rattle.grounds.specs.Replies.{accepted-account, turn-checked, reply-accepted, taken-renews}
 
 -- ---- seeds as they are kept
 
@@ -191,3 +191,35 @@ day-later p i phrase buffer s m t unused long stored room during q u =
     (day p i phrase buffer (run during s) (made-run during s m) u (subst (λ (r : Room). 1 < r .count) (sym same) unused) long
     (subst (λ (r : Room). r .password ≡ passwordOf phrase r (r .count)) (sym same) stored)
     (subst (λ (text : List ℕ). length text ≤ length buffer) (sym (challenge-kept p i during s m t q u)) room))
+
+-- ---- after a renewal
+
+-- What is in lower case stays so.
+lower-twice : (b : ℕ) → lowerOf (lowerOf b) ≡ lowerOf b
+lower-twice b = cases (isUpper b) upper (λ e. ap lowerOf (ap (λ (t : Bool). cond t (b + 32) b) e))
+  where
+    upper : isUpper b ≡ true → lowerOf (lowerOf b) ≡ lowerOf b
+    upper e =
+        let low = leb-true 65 b (both (leb 65 b) (leb b 90) e .0) in
+        let out : isUpper (b + 32) ≡ false = second-fails (leb 65 (b + 32)) (leb (b + 32) 90) (lt-leb (b + 32) 90 (omega arith)) in
+        let lower = ap (λ (t : Bool). cond t (b + 32) b) e in
+        ap lowerOf lower ∙ ap (λ (t : Bool). cond t (b + 32 + 32) (b + 32)) out ∙ sym lower
+
+lowers-twice : (s : List ℕ) → map lowerOf (map lowerOf s) ≡ map lowerOf s
+lowers-twice [] = refl
+lowers-twice (b ∷ s) = ap₂ (λ (c : ℕ) (t : List ℕ). c ∷ t) (lower-twice b) (lowers-twice s)
+
+-- So a seed as it is kept gives the passwords of the seed as it was given.
+kept-passwords : (algorithm : Algorithm) (phrase seed : List ℕ) (n : ℕ) → password algorithm phrase seed n ≡ password algorithm phrase (map lowerOf seed) n
+unfolding password
+kept-passwords algorithm phrase seed zero = ap (λ (t : List ℕ). hash algorithm (t ++ phrase)) (sym (lowers-twice seed))
+kept-passwords algorithm phrase seed (suc n) = ap (λ (w : ℕ). hash algorithm (bytesOf w)) (kept-passwords algorithm phrase seed n)
+
+-- Where the new password is what the pass-phrase gives with the new values, the account has what the pass-phrase gives.
+pub renewed-stored : (p n number count : ℕ) (seed new text : List ℕ) (s : State) → Steps.renew p number count seed new text s .answer ≡ Replied.Accepted n
+    → (phrase : List ℕ) → numberOf new ≡ password (algorithmIn (numbered number)) phrase seed count
+    → (let room = accountOf (turnId s) (Steps.renew p number count seed new text s .state) in room .password ≡ passwordOf phrase room (room .count))
+renewed-stored p n number count seed new text s e phrase given =
+    subst (λ (room : Room). room .password ≡ passwordOf phrase room (room .count))
+    (sym (taken-renews p n number count seed new text s e .1 .becomes))
+    (given ∙ kept-passwords (algorithmIn (numbered number)) phrase seed count)

@@ -10,6 +10,7 @@ use Rattle.refusal.specs.declared.Refusal.{Refusal}
 use Rattle.refusal.specs.declared.Checked.{Checked}
 use Rattle.refusal.specs.Checks.{unless, inOrder}
 use Rattle.refusal.specs.Laws.{must-good, in-parts}
+use Rattle.password.specs.Algorithm.{numbered, algorithmChecked}
 use Rattle.password.specs.PhraseAndSeed.{seedChecked}
 use Rattle.accounts.specs.Accounts.{countWithin}
 use Rattle.table.specs.Table.{State, isThere}
@@ -19,7 +20,7 @@ use Rattle.reached.specs.Equal.{accountsIn, Housed}
 use Rattle.reached.specs.Laws.{full-exactly, removed-room-left}
 use Rattle.reached.specs.Made.{Made}
 use Rattle.reached.specs.RoomsFound.{apart-once}
-use Rattle.grounds.specs.Never.{test, ofSeed, rows-never}
+use Rattle.grounds.specs.Never.{test, ofAlgorithm, ofSeed, rows-never}
 
 pub housed : (s : State) → Made s → Housed s
 housed s m = record { all = m .room-count; once = apart-once (s .rooms) (m .apart) }
@@ -41,7 +42,7 @@ module _ (id number count : ℕ) (seed password : List ℕ) (s : State) where
   other-checks : inOrder before ≡ Checked.Refused Refusal.TableFull → ⊥
   other-checks =
       rows-never (53 ∷ []) Refusal.TableFull refl (test (not (eqb id 0)) Refusal.IdZero ∷ test (leb 2 count && leb count 9999) Refusal.CountOutside
-      ∷ ofSeed seed ∷ test (not (isThere id s)) Refusal.IdTaken ∷ []) refl
+      ∷ ofAlgorithm (numbered number) ∷ ofSeed seed ∷ test (not (isThere id s)) Refusal.IdTaken ∷ []) refl
 
   pub enrol-full : Housed s
       → (enrol id number count seed password s .answer ≡ Checked.Refused Refusal.TableFull)

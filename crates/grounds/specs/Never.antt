@@ -12,16 +12,20 @@ use Rattle.refusal.specs.declared.Checked.{Checked}
 use Rattle.refusal.specs.Numbers.{listingOf}
 use Rattle.refusal.specs.Checks.{must, unless, inOrder}
 use Rattle.text.specs.Tests.{both}
+use Rattle.password.specs.declared.algorithm.Named.{Named}
+use Rattle.password.specs.Algorithm.{algorithmChecked}
 use Rattle.password.specs.PhraseAndSeed.{plain, seedChecked}
 use Rattle.grounds.specs.Listed.{isIn}
 
--- A check: a test with its refusal, or that of a seed.
+-- A check: a test with its refusal, or that of an algorithm or of a seed.
 pub data Test : Type 0 where
   test : Bool → Refusal → Test
+  ofAlgorithm : Named → Test
   ofSeed : List ℕ → Test
 
 abbrev pub checkOf : Test → Checked
 checkOf (Test.test t w) = must t w
+checkOf (Test.ofAlgorithm found) = algorithmChecked found
 checkOf (Test.ofSeed text) = seedChecked text
 
 -- They refuse with none of the numbers.
@@ -31,6 +35,7 @@ other numbers w = not (isIn (listingOf w .0) numbers)
 abbrev pub others : List ℕ → List Test → Bool
 others numbers [] = true
 others numbers (Test.test t w ∷ rows) = other numbers w && others numbers rows
+others numbers (Test.ofAlgorithm found ∷ rows) = other numbers Refusal.AlgorithmUnknown && others numbers rows
 others numbers (Test.ofSeed text ∷ rows) = other numbers Refusal.SeedLength && (other numbers Refusal.SeedCharacter && others numbers rows)
 
 module _ (numbers : List ℕ) (why : Refusal) (own : isIn (listingOf why .0) numbers ≡ true) where
@@ -53,6 +58,10 @@ module _ (numbers : List ℕ) (why : Refusal) (own : isIn (listingOf why .0) num
   test-never true w h = good-never
   test-never false w h = other-never w h
 
+  algorithm-never : (found : Named) → other numbers Refusal.AlgorithmUnknown ≡ true → Never (algorithmChecked found)
+  algorithm-never (Named.Is algorithm) h = good-never
+  algorithm-never Named.Unknown h = other-never Refusal.AlgorithmUnknown h
+
   pub seed-never : (text : List ℕ) → other numbers Refusal.SeedLength ≡ true → other numbers Refusal.SeedCharacter ≡ true → Never (seedChecked text)
   seed-never text a b = go (leb 1 (length text) && leb (length text) 16) (plain text)
     where
@@ -66,6 +75,9 @@ module _ (numbers : List ℕ) (why : Refusal) (own : isIn (listingOf why .0) num
   rows-never (Test.test t w ∷ rows) h =
       let halves = both (other numbers w) (others numbers rows) h in
       then-never (must t w) (inOrder (map checkOf rows)) (test-never t w (halves .0)) (rows-never rows (halves .1))
+  rows-never (Test.ofAlgorithm found ∷ rows) h =
+      let halves = both (other numbers Refusal.AlgorithmUnknown) (others numbers rows) h in
+      then-never (algorithmChecked found) (inOrder (map checkOf rows)) (algorithm-never found (halves .0)) (rows-never rows (halves .1))
   rows-never (Test.ofSeed text ∷ rows) h =
       let first = both (other numbers Refusal.SeedLength) (other numbers Refusal.SeedCharacter && others numbers rows) h in
       let second = both (other numbers Refusal.SeedCharacter) (others numbers rows) (first .1) in

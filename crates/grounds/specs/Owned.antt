@@ -169,4 +169,4 @@ challenge-kept p i calls s m t q u =
     ap (λ (j : ℕ). accountOf j (run calls s)) (u .account)
     ∙ turn-keeps p i calls s m t q u
     ∙ ap (λ (j : ℕ). accountOf j s) (sym (t .account)) in
-    ap (λ (room : Room). challengeText (room .seed) (room .count - 1)) same
+    ap (λ (room : Room). challengeText (room .algorithm) (room .seed) (room .count - 1)) same

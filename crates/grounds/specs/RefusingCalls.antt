@@ -18,7 +18,7 @@ use Rattle.text.specs.Tests.{cases}
 use Rattle.password.specs.PhraseAndSeed.{seedChecked}
 use Rattle.password.specs.Algorithm.{numbered, algorithmChecked}
 use Rattle.password.specs.Password.{bytesOf, hash}
-use Rattle.challenge.specs.Challenges.{challengeWritten}
+use Rattle.challenge.specs.Challenges.{challengeWrittenBy}
 use Rattle.reply.specs.Reply.{readingOf}
 use Rattle.line.specs.Line.{standsIn}
 use Rattle.port.specs.declared.Port.{Port}
@@ -141,7 +141,7 @@ turn-rows port s m =
 -- The challenge writer's own checks, 23, 24 and 13, find nothing wrong with a good account.
 challenge-rows : (port room : ℕ) (s : State) → Made s
     → Follows (writtenChecked (Steps.challenge port room s)) (conditionsOf (Call.Challenge port room) s)
-unfolding Steps.challenge challengeWritten
+unfolding Steps.challenge challengeWrittenBy
 challenge-rows port room s m =
     behind writtenChecked Written.Refused (λ why. refl) (turnChecked port s) _ (turnRows port s) _ (turn-rows port s m)
     (λ e.

@@ -76,7 +76,7 @@ module _ (why : Refusal) (other : isIn (listingOf why .0) (61 ∷ 62 ∷ []) ≡
       (λ w. offered-unchanged port w (lowered (accountOf (turnId s) s) w) s) e
   refused-unchanged (Call.Renew port number count seed new text) s e =
       replied-unchanged s (renewChecked port number count seed s) (readingOf text) _
-      (λ w. offered-unchanged port w (newRoom (accountOf (turnId s) s .id) count seed new) s) e
+      (λ w. offered-unchanged port w (newRoom (accountOf (turnId s) s .id) number count seed new) s) e
   refused-unchanged Call.Tick s e = let z : _≡_ {A = ℕ} 0 1 = cc in absurd (omega arith)
 
 -- ---- 31's place

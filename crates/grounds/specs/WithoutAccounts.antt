@@ -14,6 +14,7 @@ use Rattle.refusal.specs.declared.Checked.{Checked}
 use Rattle.refusal.specs.declared.Written.{Written}
 use Rattle.refusal.specs.Checks.{must, unless, inOrder}
 use Rattle.refusal.specs.Each.{Each}
+use Rattle.password.specs.Algorithm.{numbered, algorithmChecked}
 use Rattle.password.specs.PhraseAndSeed.{seedChecked}
 use Rattle.line.specs.declared.Place.{Place}
 use Rattle.line.specs.Line.{Waiting, ofPort, some, first}
@@ -96,7 +97,7 @@ abbrev pub outside : Checked
 outside = Checked.Refused Refusal.PortNotInLine
 
 -- Enrol's own checks: 50, 51, 23, 24.
-abbrev pub ownChecks : ℕ → ℕ → List ℕ → Checked
+abbrev pub ownChecks : ℕ → ℕ → ℕ → List ℕ → Checked
 ownChecks id number count seed = inOrder (idGiven id ∷ countWithin count ∷ algorithmChecked (numbered number) ∷ seedChecked seed ∷ [])
 
 -- A turn's, where the account that the front waits for isn't there: 55, 59, 60, 54.

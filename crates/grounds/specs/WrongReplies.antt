@@ -16,8 +16,9 @@ use Rattle.refusal.specs.Checks.{unless, inOrder}
 use Rattle.text.specs.Kinds.{lowerOf}
 use Rattle.text.specs.Tests.{every, same}
 use Rattle.password.specs.PhraseAndSeed.{seedChecked}
+use Rattle.password.specs.Algorithm.{numbered}
 use Rattle.password.specs.Password.{bytesOf, hash}
-use Rattle.challenge.specs.Challenges.{challengeText, challengeWritten}
+use Rattle.challenge.specs.Challenges.{challengeText, challengeWrittenBy}
 use Rattle.reply.specs.Reply.{readingOf}
 use Rattle.line.specs.Line.{standsIn}
 use Rattle.port.specs.Port.{wrongAnswer}
@@ -33,7 +34,7 @@ use Rattle.grounds.specs.Listed.{isIn, readNumber}
 use Rattle.grounds.specs.Conditions.{Row, FirstHolds, replyRows}
 use Rattle.grounds.specs.Exactly.{first-at-most}
 use Rattle.grounds.specs.Refusing.{reply-exactly}
-use Rattle.grounds.specs.Never.{Test, test, ofSeed, checkOf, others, Never, other-never, then-never, test-never, seed-never, rows-never}
+use Rattle.grounds.specs.Never.{Test, test, ofAlgorithm, ofSeed, checkOf, others, Never, other-never, then-never, test-never, seed-never, rows-never}
 
 to-33 : (text : List ℕ) (n : ℕ) → FirstHolds n (replyRows text) → n ≤ 33
 unfolding every
@@ -68,7 +69,7 @@ module _ (why : Refusal) (wrong : isIn (listingOf why .0) (61 ∷ 62 ∷ []) ≡
   unfolding renewChecked
   renew-other port number count seed s =
       then-never (61 ∷ 62 ∷ []) why wrong (turnChecked port s) _ (turn-other port s)
-      (checks-other (test (leb 2 count && leb count 9999) Refusal.CountOutside ∷ ofSeed seed
+      (checks-other (test (leb 2 count && leb count 9999) Refusal.CountOutside ∷ ofAlgorithm (numbered number) ∷ ofSeed seed
       ∷ test (not (same (map lowerOf seed) (accountOf (turnId s) s .seed))) Refusal.SeedSame ∷ []) refl)
 
   reading-other : (text : List ℕ) → readingOf text ≡ Reading.Refused why → ⊥
@@ -82,10 +83,10 @@ module _ (why : Refusal) (wrong : isIn (listingOf why .0) (61 ∷ 62 ∷ []) ≡
   settled-other s s′ (Checked.Refused w) n e = let same : w ≡ why = cc in n (ap Checked.Refused same)
 
   challenge-other : (port room : ℕ) (s : State) → answer (Call.Challenge port room) s ≡ Answer.Refused why → ⊥
-  unfolding Steps.challenge challengeWritten
+  unfolding Steps.challenge challengeWrittenBy
   challenge-other port room s =
       let stored = accountOf (turnId s) s .seed in
-      let text = challengeText stored (accountOf (turnId s) s .count - 1) in
+      let text = challengeText (accountOf (turnId s) s .algorithm) stored (accountOf (turnId s) s .count - 1) in
       go (turnChecked port s) (turn-other port s) (seedChecked stored) (seed-never (61 ∷ 62 ∷ []) why wrong stored refl refl)
       (ltb 9999 (accountOf (turnId s) s .count - 1)) (leb (length text) room) (length text)
     where
@@ -140,7 +141,7 @@ module _ (why : Refusal) (wrong : isIn (listingOf why .0) (61 ∷ 62 ∷ []) ≡
   unfolding Steps.enrol Steps.remove Steps.join Steps.leave Steps.reply Steps.replyRead Steps.renew Steps.renewRead enrolChecked joinChecked leaveChecked
   wrong-reply (Call.Enrol id number count seed password) s e =
       absurd (settled-other s _ (enrolChecked id number count seed s)
-      (checks-other (test (not (eqb id 0)) Refusal.IdZero ∷ test (leb 2 count && leb count 9999) Refusal.CountOutside ∷ ofSeed seed
+      (checks-other (test (not (eqb id 0)) Refusal.IdZero ∷ test (leb 2 count && leb count 9999) Refusal.CountOutside ∷ ofAlgorithm (numbered number) ∷ ofSeed seed
       ∷ test (not (isThere id s)) Refusal.IdTaken ∷ test (holds 0 (s .rooms)) Refusal.TableFull ∷ []) refl) e)
   wrong-reply (Call.Remove id) s e =
       absurd (settled-other s _ (accountThere id s) (test-never (61 ∷ 62 ∷ []) why wrong (isThere id s) Refusal.AccountMissing refl) e)
@@ -157,7 +158,7 @@ module _ (why : Refusal) (wrong : isIn (listingOf why .0) (61 ∷ 62 ∷ []) ≡
       wrong-at port _ s (Presents.by-reply text)
       (replied-wrong port s (turnChecked port s) (turn-other port s) text (lowered (accountOf (turnId s) s)) e)
   wrong-reply (Call.Renew port number count seed new text) s e =
-      wrong-at port _ s (Presents.by-renew count seed new text)
+      wrong-at port _ s (Presents.by-renew number count seed new text)
       (replied-wrong port s (renewChecked port number count seed s) (renew-other port number count seed s) text
-      (λ w. newRoom (accountOf (turnId s) s .id) count seed new) e)
+      (λ w. newRoom (accountOf (turnId s) s .id) number count seed new) e)
   wrong-reply Call.Tick s e = let z : _≡_ {A = ℕ} 0 1 = cc in absurd (omega arith)

@@ -4,28 +4,39 @@ use generator::chain::step;
 use generator::generate;
 use libc::STDIN_FILENO;
 use libc::STDOUT_FILENO;
+use password::algorithm::Algorithm;
+use password::algorithm::number_of;
 use password::eight_bytes::bytes_of;
 use refusal::Reading;
 use table::Table;
 use table::fresh;
 use text::counts::Counted;
 
+// A call with a capital letter is the one of the small letter on accounts that have SHA-1.
+fn algorithm_of(call: u8) -> Algorithm {
+    match call {
+        b'H' | b'W' | b'S' => Algorithm::Sha1,
+        _ => Algorithm::Md5,
+    }
+}
+
 // The password of document 01's card at that count; the one at count 99 is presented here.
-fn password_at(count: u32) -> u64 {
-    let Reading::Password(p) = generate(b"A_Valid_Pass_Phrase", b"AValidSeed", count) else {
+fn password_at(algorithm: u32, count: u32) -> u64 {
+    let Reading::Password(p) = generate(algorithm, b"A_Valid_Pass_Phrase", b"AValidSeed", count)
+    else {
         return 0;
     };
     p
 }
 
 // A table with that many accounts, each at count 100.
-fn table_of(accounts: u16) -> Table {
-    let stored = bytes_of(password_at(100));
+fn table_of(algorithm: u32, accounts: u16) -> Table {
+    let stored = bytes_of(password_at(algorithm, 100));
     let mut t = fresh();
     let mut id = 0;
     while id < accounts {
         id += 1;
-        let enrolled = login::enrol(t, id, 100, b"AValidSeed", &stored);
+        let enrolled = login::enrol(t, id, algorithm, 100, b"AValidSeed", &stored);
         t = enrolled.table;
     }
     t
@@ -87,14 +98,16 @@ fn is_tick(call: u8) -> bool {
 fn once(call: u8, table: Table, port: u8, id: u16) -> Table {
     let stored = [7u8; 8];
     match call {
-        b'e' => login::enrol(table, 1000, 99, b"AValidSeed", &stored).table,
+        b'e' => login::enrol(table, 1000, 1, 99, b"AValidSeed", &stored).table,
         b'r' => login::remove(table, id).table,
         b'j' => login::join(table, port, id).table,
         b'l' => login::leave(table, port).table,
         b'c' => challenged(table, port),
         b'h' => login::reply(table, port, b"85C4 3EE0 3857 765B").table,
         b'w' => login::reply(table, port, b"FOWL KID MASH DEAD DUAL OAF").table,
-        b'n' => login::renew(table, port, 99, b"dog2", &stored, b"85C4 3EE0 3857 765B").table,
+        b'H' => login::reply(table, port, b"C891 F389 B68D E9EC").table,
+        b'W' => login::reply(table, port, b"ONCE GRAB SOOT CUBE SLAY WAIT").table,
+        b'n' => login::renew(table, port, 1, 99, b"dog2", &stored, b"85C4 3EE0 3857 765B").table,
         b'i' | b't' | b'u' => login::tick(table),
         _ => table,
     }
@@ -116,11 +129,11 @@ fn repeat(call: u8, start: Table, id: u16, times: u64) -> Table {
 }
 
 // The one hash that Reply does, on a password and then on what it gave.
-fn hashes(times: u64) -> u64 {
+fn hashes(algorithm: Algorithm, times: u64) -> u64 {
     let mut p = 0;
     let mut k = 0;
     while k < times {
-        p = step(p);
+        p = step(algorithm, p);
         k += 1;
     }
     p
@@ -133,7 +146,8 @@ fn print_number(n: u64, after: &[u8]) {
 
 // What is repeated: with how many accounts, the ports in line for the last of them.
 fn measure(call: u8, accounts: u16, times: u64) {
-    let start = prepared(call, table_of(accounts), accounts);
+    let algorithm = number_of(algorithm_of(call));
+    let start = prepared(call, table_of(algorithm, accounts), accounts);
     let last = repeat(call, start, accounts, times);
     let ports = last.ports;
     let first = ports[0];
@@ -159,8 +173,8 @@ fn main() {
         _ => 32,
     };
     let times = thousands as u64 * 1000;
-    if input[0] == b's' {
-        io::print_hex(STDOUT_FILENO, hashes(times), 16);
+    if (input[0] == b's') | (input[0] == b'S') {
+        io::print_hex(STDOUT_FILENO, hashes(algorithm_of(input[0]), times), 16);
         io::write_all(STDOUT_FILENO, b"\n");
         return;
     }

@@ -1,6 +1,6 @@
 -- A password is below 2 ^ 64: eight bytes.
 use Prim.Native.Nat.{ℕ, zero, suc, _%_, _^_, _<_}
-use mathlib.Core.Path.{sym, ap, subst}
+use mathlib.Core.Path.{sym, subst}
 use mathlib.Core.List.{List, [], _∷_, _++_, map}
 use native.Mathlib.Nat.{mod-lt}
 use native.Mathlib.Omega.{arith}
@@ -11,7 +11,7 @@ use Rattle.digests.specs.Md5.{registers, md5}
 use Rattle.digests.specs.Sha1.{hashValue}
 use Rattle.text.specs.Kinds.{lowerOf}
 use Rattle.password.specs.declared.algorithm.Algorithm.{Algorithm}
-use Rattle.password.specs.Password.{fold, foldWords, numberAfter, numberOf, bytesOf, hash, password}
+use Rattle.password.specs.Password.{foldWords, numberAfter, numberOf, bytesOf, hash, password}
 use Rattle.password.specs.FoldLaws.{fold-words}
 
 eight-small : (b₀ b₁ b₂ b₃ b₄ b₅ b₆ b₇ : ℕ)

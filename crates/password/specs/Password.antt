@@ -14,13 +14,18 @@ use Rattle.digests.specs.declared.Order.{Order}
 use Rattle.digests.specs.declared.FiveWords.{FiveWords}
 use Rattle.digests.specs.Words.{bytes4}
 use Rattle.digests.specs.Md5.{md5}
-use Rattle.digests.specs.Sha1.{hashValue}
+use Rattle.digests.specs.Sha1.{hashValue, sha1}
 use Rattle.password.specs.PhraseAndSeed.{phraseChecked, seedChecked}
 use Rattle.password.specs.Algorithm.{numbered, algorithmChecked, algorithmIn}
 use Rattle.password.specs.declared.algorithm.Algorithm.{Algorithm}
 -- "The 8 bytes are one 64-bit number, first byte most significant"
 unfoldable pub use Rattle.password.specs.EightBytes.{numberAfter}
 pub use Rattle.password.specs.EightBytes.{numberOf, bytesOf}
+
+-- An algorithm's digest of a message: RFC 1321's, or FIPS 180's.
+abbrev pub digestBy : Algorithm → List ℕ → List ℕ
+digestBy Algorithm.Md5 = md5
+digestBy Algorithm.Sha1 = sha1
 
 -- "byte i of the 16-byte digest is xored with byte i+8, giving 8 bytes"
 unfoldable pub fold : List ℕ → List ℕ

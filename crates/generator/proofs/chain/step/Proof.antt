@@ -1,33 +1,47 @@
--- `step` meets its promise: the two words are the 8 bytes.
-use Prim.Native.Nat.{ℕ, _/_, _%_, _^_, _<_}
-use mathlib.Core.Path.{_≡_, ap, ap₂, _∙_}
-use mathlib.Core.List.{List, _++_}
+-- `step` meets its promise: the two words are the 8 bytes, with either algorithm.
+use mathlib.Core.Path.{sym, ap, _∙_}
 use borrow.Author.Needs.{needs}
-use native.Mathlib.Omega.{arith}
-use Rattle.digests.specs.Md5.{md5, bytes4, registers}
-use Rattle.md5.specs.Laws.{bytes4-word}
-use Rattle.password.specs.Password.{hash}
-use Rattle.generator.proofs.Folded.{foldedOf}
+use Rattle.digests.specs.declared.FiveWords.{FiveWords}
+use Rattle.digests.specs.declared.State.{State}
+use Rattle.digests.specs.Md5.{md5, registers}
+use Rattle.digests.specs.Sha1.{hashValue}
+use Rattle.password.specs.declared.algorithm.Algorithm.{Algorithm}
+use Rattle.password.specs.Password.{fold, foldWords, numberOf, bytesOf, hash}
+use Rattle.generator.specs.Inside.{md5Bytes}
 use Rattle.generator.proofs.chain.step.Statement.{statement}
 use Rattle.generator.proofs.chain.step.Tie as tie
-
-byte : (n : ℕ) → n % 256 < 256
-byte n = omega arith
 
 returns : tie.Need-returns
 unfolding hash md5
 returns c =
-    let p = c .before .before .before .before .args .p in
-    let first : bytes4 (c .before .before .before .low-word .result) ≡ _ =
-    ap bytes4 (c .before .before .before .low-word .ensures)
-    ∙ bytes4-word (p / 2 ^ 56 % 256) (p / 2 ^ 48 % 256) (p / 2 ^ 40 % 256) (p / 2 ^ 32 % 256) (byte _) (byte _) (byte _) (byte _) in
-    let second : bytes4 (c .before .before .low-word2 .result) ≡ _ =
-    ap bytes4 (c .before .before .low-word2 .ensures)
-    ∙ bytes4-word (p / 2 ^ 24 % 256) (p / 2 ^ 16 % 256) (p / 2 ^ 8 % 256) (p % 256) (byte _) (byte _) (byte _) (byte _) in
-    c .folded .ensures
-    ∙ ap foldedOf (c .before .compress-eight .ensures ∙ ap registers (ap₂ (λ (u v : List ℕ). u ++ v) first second))
+    let told = c .before .before .before in
+    let p = told .before .before .args .p in
+    c .folded-md5 .ensures
+    ∙ ap (λ (q : State). numberOf (fold (md5Bytes q)))
+    (c .before .compress-eight .ensures ∙ ap registers (c .before .before .words-of .ensures))
+    ∙ sym (ap (λ (a : Algorithm). hash a (bytesOf p)) (told .enum-told .given .1))
+
+returns-2 : tie.Need-returns-2
+unfolding hash
+returns-2 c =
+    let told = c .before .before .before in
+    let p = told .before .before .args .p in
+    c .folded-sha1 .ensures
+    ∙ ap (λ (h : FiveWords). numberOf (foldWords h))
+    (c .before .compress-eight2 .ensures ∙ ap hashValue (c .before .before .words-of2 .ensures))
+    ∙ sym (ap (λ (a : Algorithm). hash a (bytesOf p)) (told .enum-told2 .given .1))
 
 pub step-spec : {M : Type 1} → statement M
 step-spec =
     tie.close
-    (tie.spec (λ c κs. search needs) (λ c κs. search needs) (λ c κs. search needs) (λ c κs. search needs) returns)
+    (tie.spec
+    (λ c. search needs)
+    (λ c κs. search needs)
+    (λ c κs. search needs)
+    (λ c κs. search needs)
+    (λ c. search needs)
+    (λ c κs. search needs)
+    (λ c κs. search needs)
+    (λ c κs. search needs)
+    returns
+    returns-2)

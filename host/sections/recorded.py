@@ -1,0 +1,46 @@
+"""The two recorded scripts of the base, host/replay/base_a and base_b, in today's line format.
+
+They stay as they were recorded, with their answers, from a model that isn't ours. R-1 put the algorithm into some lines
+and answers, and made `sha1` a known name: what is recorded is put into that form here. With R-4 a table has no one line
+for all accounts any more; the scripts and this file go then.
+"""
+from harness import ROOT
+
+# the calls that got an algorithm, and the word in front of which it stands
+ALGORITHM_AT = {"gen": 1, "wchal": 1, "enrol": 2, "renew": 2}
+# a name that the base refused and R-1 knows; one of the same length that is refused still
+SHA1, UNKNOWN = b"otp-sha1".hex(), b"otp-sha0".hex()
+
+
+def call_today(line):
+    """A call of the base: md5 is its algorithm."""
+    words = line.replace(SHA1, UNKNOWN).split(" ")
+    if words[0] in ALGORITHM_AT:
+        words.insert(ALGORITHM_AT[words[0]], "1")
+    return " ".join(words)
+
+
+def account_today(shown):
+    """An account of a dump: `id:seed:count:password` as `id:alg:count:password:seed`."""
+    if shown == "-":
+        return shown
+    id, seed, count, password = shown.split(":")
+    return f"{id}:1:{count}:{password}:{seed}"
+
+
+def answer_today(line, answer):
+    """The answer that was recorded to that call."""
+    name, words = line.split(" ")[0], answer.split(" ")
+    if name == "chal" and words[0] == "ok":
+        words.insert(1, "1")
+    if name == "dump" and words[0] == "ok":
+        accounts = words[1].removeprefix("A=").split(",")
+        words[1] = "A=" + ",".join(map(account_today, accounts))
+    return " ".join(words)
+
+
+def scripts():
+    """Each script as its calls and answers of today."""
+    for name in ("base_a", "base_b"):
+        lines, answers = ((ROOT / "host" / "replay" / f"{name}.{kind}").read_text().splitlines() for kind in ("calls", "answers"))
+        yield [call_today(line) for line in lines], [answer_today(*pair) for pair in zip(lines, answers, strict=True)]
