@@ -2,7 +2,7 @@
 -- them.
 use Prim.Native.Nat.{ℕ, _+_, _/_}
 use mathlib.Core.Bool.{cond}
-use mathlib.Core.List.{List, [], _∷_}
+use mathlib.Core.List.{List}
 use lib.Dec.{eqb}
 use lib.ListN.{getD}
 use Rattle.digests.specs.declared.FiveWords.{FiveWords}
@@ -18,16 +18,12 @@ scheduled M t = wordAt M t (schedule M t)
 unfoldable pub following : List ℕ → List ℕ
 following M = upTo 16 (λ j. scheduled M (16 + j))
 
--- The function of a quarter of the steps, and the constants of the four quarters.
+-- The function and the constant of a quarter of the steps.
 abbrev pub functionOf : ℕ → ℕ → ℕ → ℕ → ℕ
 functionOf quarter = cond (eqb quarter 0) Ch (cond (eqb quarter 1) Parity (cond (eqb quarter 2) Maj Parity))
 
-abbrev pub constants : List ℕ
-constants = K 0 ∷ K 20 ∷ K 40 ∷ K 60 ∷ []
-
-abbrev pub constantOf : ℕ → List ℕ → ℕ
-constantOf quarter k =
-    cond (eqb quarter 0) (getD k 0 0) (cond (eqb quarter 1) (getD k 1 0) (cond (eqb quarter 2) (getD k 2 0) (getD k 3 0)))
+abbrev pub constantOf : ℕ → ℕ
+constantOf quarter = cond (eqb quarter 0) (K 0) (cond (eqb quarter 1) (K 20) (cond (eqb quarter 2) (K 40) (K 60)))
 
 -- A step with the function's value x and the constant k.
 unfoldable pub stepWith : ℕ → ℕ → ℕ → FiveWords → FiveWords
@@ -41,16 +37,16 @@ stepWith x k w v =
     }
 
 -- One step of a quarter, four of them, and sixteen steps from step t on.
-unfoldable pub stepOf : ℕ → List ℕ → ℕ → FiveWords → FiveWords
-stepOf quarter k w v = stepWith (functionOf quarter (v .b) (v .c) (v .d)) (constantOf quarter k) w v
+unfoldable pub stepOf : ℕ → ℕ → FiveWords → FiveWords
+stepOf quarter w v = stepWith (functionOf quarter (v .b) (v .c) (v .d)) (constantOf quarter) w v
 
-unfoldable pub fourOf : ℕ → List ℕ → Four → FiveWords → FiveWords
-fourOf quarter k w v = stepOf quarter k (w .3) (stepOf quarter k (w .2) (stepOf quarter k (w .1) (stepOf quarter k (w .0) v)))
+unfoldable pub fourOf : ℕ → Four → FiveWords → FiveWords
+fourOf quarter w v = stepOf quarter (w .3) (stepOf quarter (w .2) (stepOf quarter (w .1) (stepOf quarter (w .0) v)))
 
 abbrev pub fourAt : List ℕ → ℕ → Four
 fourAt w i = record { 0 = getD w i 0; 1 = getD w (i + 1) 0; 2 = getD w (i + 2) 0; 3 = getD w (i + 3) 0 }
 
-unfoldable pub sixteenOf : ℕ → List ℕ → List ℕ → FiveWords → FiveWords
-sixteenOf t k w v =
-    fourOf ((t + 12) / 20) k (fourAt w 12)
-    (fourOf ((t + 8) / 20) k (fourAt w 8) (fourOf ((t + 4) / 20) k (fourAt w 4) (fourOf (t / 20) k (fourAt w 0) v)))
+unfoldable pub sixteenOf : ℕ → List ℕ → FiveWords → FiveWords
+sixteenOf t w v =
+    fourOf ((t + 12) / 20) (fourAt w 12)
+    (fourOf ((t + 8) / 20) (fourAt w 8) (fourOf ((t + 4) / 20) (fourAt w 4) (fourOf (t / 20) (fourAt w 0) v)))

@@ -6,15 +6,11 @@ ghost use lib.ListN.{length};
 ghost use Rattle.digests.specs.declared.Order.{Order};
 ghost use Rattle.digests.specs.Words.{bytes4};
 ghost use Rattle.digests.specs.Sha1 as spec;
-ghost use Rattle.sha1.specs.Inside as code;
 use crate::schedule::following;
 use crate::steps::sixteen_of;
 use block::arithmetic::add;
 use digests::FiveWords;
 use digests::Order;
-
-// 4.2.1: the constants, one for each quarter of the steps.
-const CONSTANTS: [u32; 4] = [0x5a827999, 0x6ed9eba1, 0x8f1bbcdc, 0xca62c1d6];
 
 // 5.3.1: the initial hash value.
 fn initial() -> FiveWords
@@ -42,28 +38,28 @@ fn summed(v: FiveWords, h: FiveWords) -> FiveWords
     }
 }
 
-// The hash value after the block w0. It has two callers and so stays a function of its own, and the constants are
-// handed to it: where the compiler sees them it adds them last, and the next step waits.
-fn compress(k: [u32; 4], w0: [u32; 16], h: FiveWords) -> FiveWords
-    requires { ⌜ k ≡ code.constants ⌝ }
+// The hash value after the block w0.
+fn compress(w0: [u32; 16], h: FiveWords) -> FiveWords
     ensures { λ r. ⌜ r ≡ spec.compressed w0 h ⌝ }
 {
-    let v1 = sixteen_of(0, k, h, w0);
+    let v1 = sixteen_of(0, h, w0);
     let w1 = following(w0);
-    let v2 = sixteen_of(16, k, v1, w1);
+    let v2 = sixteen_of(16, v1, w1);
     let w2 = following(w1);
-    let v3 = sixteen_of(32, k, v2, w2);
+    let v3 = sixteen_of(32, v2, w2);
     let w3 = following(w2);
-    let v4 = sixteen_of(48, k, v3, w3);
+    let v4 = sixteen_of(48, v3, w3);
     let w4 = following(w3);
-    summed(sixteen_of(64, k, v4, w4), h)
+    summed(sixteen_of(64, v4, w4), h)
 }
 
-// The hash value after a message of eight bytes, given as two words. Its one block ends with the length, 64 bits.
+// The hash value after a message of eight bytes, given as two words. Its one block ends with the length, 64 bits. The
+// steps are written again here: fourteen words of the block are constants, and with them in sight the compiler makes
+// a chain step shorter by an eighth.
 pub fn compress_eight(first: u32, second: u32) -> FiveWords
     ensures { λ r. ⌜ r ≡ spec.hashValue (bytes4 Order.Big first ++ bytes4 Order.Big second) ⌝ }
 {
-    let w = [
+    let w0 = [
         first,
         second,
         0x80000000,
@@ -81,7 +77,16 @@ pub fn compress_eight(first: u32, second: u32) -> FiveWords
         0,
         64,
     ];
-    compress(CONSTANTS, w, initial())
+    let h = initial();
+    let v1 = sixteen_of(0, h, w0);
+    let w1 = following(w0);
+    let v2 = sixteen_of(16, v1, w1);
+    let w2 = following(w1);
+    let v3 = sixteen_of(32, v2, w2);
+    let w3 = following(w2);
+    let v4 = sixteen_of(48, v3, w3);
+    let w4 = following(w3);
+    summed(sixteen_of(64, v4, w4), h)
 }
 
 // The hash value after the whole message.
@@ -93,7 +98,7 @@ pub fn registers(m: &[u8]) -> FiveWords
     let n = block::count(m);
     let mut j = 0;
     while j < n {
-        h = compress(CONSTANTS, block::block(Order::Big, m, j), h);
+        h = compress(block::block(Order::Big, m, j), h);
         j += 1;
     }
     h

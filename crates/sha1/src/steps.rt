@@ -36,36 +36,36 @@ fn step(v: FiveWords, f: u32, k: u32, w: u32) -> FiveWords
     }
 }
 
-// One step of a quarter, 0 to 3, with the constants k of the four.
-fn step_of(quarter: u32, k: [u32; 4], v: FiveWords, w: u32) -> FiveWords
-    ensures { λ r. ⌜ r ≡ code.stepOf quarter k w v ⌝ }
+// One step of a quarter, 0 to 3: 4.1.1 and 4.2.1 have its function and its constant.
+fn step_of(quarter: u32, v: FiveWords, w: u32) -> FiveWords
+    ensures { λ r. ⌜ r ≡ code.stepOf quarter w v ⌝ }
 {
     match quarter {
-        0 => step(v, ch(v.b, v.c, v.d), k[0], w),
-        1 => step(v, parity(v.b, v.c, v.d), k[1], w),
-        2 => step(v, maj(v.b, v.c, v.d), k[2], w),
-        _ => step(v, parity(v.b, v.c, v.d), k[3], w),
+        0 => step(v, ch(v.b, v.c, v.d), 0x5a827999, w),
+        1 => step(v, parity(v.b, v.c, v.d), 0x6ed9eba1, w),
+        2 => step(v, maj(v.b, v.c, v.d), 0x8f1bbcdc, w),
+        _ => step(v, parity(v.b, v.c, v.d), 0xca62c1d6, w),
     }
 }
 
 // Four steps of a quarter.
-fn four_of(quarter: u32, k: [u32; 4], v0: FiveWords, w: Four) -> FiveWords
-    ensures { λ r. ⌜ r ≡ code.fourOf quarter k w v0 ⌝ }
+fn four_of(quarter: u32, v0: FiveWords, w: Four) -> FiveWords
+    ensures { λ r. ⌜ r ≡ code.fourOf quarter w v0 ⌝ }
 {
-    let v1 = step_of(quarter, k, v0, w.0);
-    let v2 = step_of(quarter, k, v1, w.1);
-    let v3 = step_of(quarter, k, v2, w.2);
-    step_of(quarter, k, v3, w.3)
+    let v1 = step_of(quarter, v0, w.0);
+    let v2 = step_of(quarter, v1, w.1);
+    let v3 = step_of(quarter, v2, w.2);
+    step_of(quarter, v3, w.3)
 }
 
 // Sixteen steps, from step t on. A caller says t by a literal, and the compiler then leaves no choice to be made at
 // run time.
-pub fn sixteen_of(t: u32, k: [u32; 4], v0: FiveWords, w: [u32; 16]) -> FiveWords
+pub fn sixteen_of(t: u32, v0: FiveWords, w: [u32; 16]) -> FiveWords
     requires { ⌜ t ≤ 64 ⌝ }
-    ensures { λ r. ⌜ r ≡ code.sixteenOf t k w v0 ⌝ }
+    ensures { λ r. ⌜ r ≡ code.sixteenOf t w v0 ⌝ }
 {
-    let v1 = four_of(t / 20, k, v0, part(w, 0));
-    let v2 = four_of((t + 4) / 20, k, v1, part(w, 4));
-    let v3 = four_of((t + 8) / 20, k, v2, part(w, 8));
-    four_of((t + 12) / 20, k, v3, part(w, 12))
+    let v1 = four_of(t / 20, v0, part(w, 0));
+    let v2 = four_of((t + 4) / 20, v1, part(w, 4));
+    let v3 = four_of((t + 8) / 20, v2, part(w, 8));
+    four_of((t + 12) / 20, v3, part(w, 12))
 }

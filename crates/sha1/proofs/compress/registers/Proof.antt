@@ -1,13 +1,13 @@
 -- `registers` meets its promise: the blocks before j are taken in.
 use Prim.Native.Nat.{_-_, _≤_}
-use mathlib.Core.Path.{_≡_, refl, ap, ap₂, _∙_}
+use mathlib.Core.Path.{_≡_, ap, ap₂, _∙_}
 use borrow.Author.Needs.{needs}
 use native.Mathlib.Omega.{arith}
 use native.Mathlib.Numerals.{add-one}
 use lib.ListN.{length}
 use Rattle.digests.specs.declared.Order.{Order}
 use Rattle.digests.specs.Padding.{blocks, absorbed}
-use Rattle.digests.specs.Sha1.{K, initial, compressed, hashValue}
+use Rattle.digests.specs.Sha1.{initial, compressed, hashValue}
 use Rattle.sha1.proofs.compress.registers.Statement.{statement}
 use Rattle.sha1.proofs.compress.registers.Tie as tie
 
@@ -20,10 +20,6 @@ abbrev μ-loop : tie.MeasureT-loop
 loop-holds : tie.Need-loop-holds Inv-loop μ-loop
 unfolding absorbed
 loop-holds c = (omega arith, c .before .initial .ensures)
-
-compress-requires : tie.Need-compress-requires Inv-loop μ-loop
-unfolding K
-compress-requires c κs = refl
 
 loop-again : tie.Need-loop-again Inv-loop μ-loop
 unfolding absorbed
@@ -49,7 +45,7 @@ registers-spec =
     (λ c κs. search needs)
     loop-holds
     (λ c κs. search needs)
-    compress-requires
+    (λ c κs. search needs)
     (λ c. search needs)
     (λ c. search needs)
     loop-again

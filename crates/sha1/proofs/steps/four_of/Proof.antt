@@ -7,7 +7,7 @@ use Rattle.sha1.proofs.steps.four_of.Tie as tie
 returns : tie.Need-returns
 returns c =
     let a = c .before .before .before .before .args in
-    four-steps (a .quarter) (a .k) (a .w) _ _ _ _ _
+    four-steps (a .quarter) (a .w) _ _ _ _ _
     (c .before .before .before .step-of .ensures)
     (c .before .before .step-of2 .ensures)
     (c .before .step-of3 .ensures)

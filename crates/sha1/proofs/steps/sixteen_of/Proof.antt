@@ -7,7 +7,7 @@ use Rattle.sha1.proofs.steps.sixteen_of.Tie as tie
 returns : tie.Need-returns
 returns c =
     let a = c .before .before .before .before .before .before .before .before .args in
-    sixteen-steps (a .t) (a .k) (a .w) _ _ _ _ _ _ _ _ _
+    sixteen-steps (a .t) (a .w) _ _ _ _ _ _ _ _ _
     (c .before .before .before .before .before .before .before .part .ensures)
     (c .before .before .before .before .before .before .four-of .ensures)
     (c .before .before .before .before .before .part2 .ensures)

@@ -2,39 +2,44 @@
 use mathlib.Core.Path.{ap}
 use borrow.Author.Needs.{needs}
 use Prim.Native.Nat.{ℕ}
+use Rattle.digests.specs.Sha1.{K}
 use Rattle.sha1.specs.Inside.{stepOf}
 use Rattle.sha1.proofs.steps.Quarters.{of-quarter, last-quarter}
 use Rattle.sha1.proofs.steps.step_of.Statement.{statement}
 use Rattle.sha1.proofs.steps.step_of.Tie as tie
 
 returns : tie.Need-returns
+unfolding K
 returns c =
     let case = c .before .before in
     let a = case .before .args in
-    of-quarter 0 (a .quarter) (a .t2) (a .w) _ (a .v) _ (ap (λ (n : ℕ). stepOf n (a .t2) (a .w) (a .v)) (case .match .keys1))
+    of-quarter 0 (a .quarter) (a .w) _ (a .v) _ (ap (λ (n : ℕ). stepOf n (a .w) (a .v)) (case .match .keys1))
     (c .before .ch .ensures) (c .step .ensures)
 
 returns-2 : tie.Need-returns-2
+unfolding K
 returns-2 c =
     let case = c .before .before in
     let a = case .before .args in
-    of-quarter 1 (a .quarter) (a .t2) (a .w) _ (a .v) _ (ap (λ (n : ℕ). stepOf n (a .t2) (a .w) (a .v)) (case .match .keys2))
+    of-quarter 1 (a .quarter) (a .w) _ (a .v) _ (ap (λ (n : ℕ). stepOf n (a .w) (a .v)) (case .match .keys2))
     (c .before .parity .ensures) (c .step2 .ensures)
 
 returns-3 : tie.Need-returns-3
+unfolding K
 returns-3 c =
     let case = c .before .before in
     let a = case .before .args in
-    of-quarter 2 (a .quarter) (a .t2) (a .w) _ (a .v) _ (ap (λ (n : ℕ). stepOf n (a .t2) (a .w) (a .v)) (case .match .keys3))
+    of-quarter 2 (a .quarter) (a .w) _ (a .v) _ (ap (λ (n : ℕ). stepOf n (a .w) (a .v)) (case .match .keys3))
     (c .before .maj .ensures) (c .step3 .ensures)
 
 returns-4 : tie.Need-returns-4
+unfolding K
 returns-4 c =
     let case = c .before .before in
     let a = case .before .args in
     let rest = case .match .rest in
-    of-quarter 3 (a .quarter) (a .t2) (a .w) _ (a .v) _
-    (last-quarter (a .quarter) (a .t2) (a .w) (a .v) (rest .0 .0 .1) (rest .0 .1) (rest .1))
+    of-quarter 3 (a .quarter) (a .w) _ (a .v) _
+    (last-quarter (a .quarter) (a .w) (a .v) (rest .0 .0 .1) (rest .0 .1) (rest .1))
     (c .before .parity2 .ensures) (c .step4 .ensures)
 
 pub step-of-spec : {M : Type 1} → statement M
@@ -42,16 +47,12 @@ step-of-spec =
     tie.close
     (tie.spec
     (λ c κs. search needs)
-    (λ c. search needs)
     (λ c κs. search needs)
     (λ c κs. search needs)
-    (λ c. search needs)
     (λ c κs. search needs)
     (λ c κs. search needs)
-    (λ c. search needs)
     (λ c κs. search needs)
     (λ c κs. search needs)
-    (λ c. search needs)
     (λ c κs. search needs)
     returns
     returns-2
