@@ -1,4 +1,4 @@
--- What the program prints for some inputs, as one theorem: a row of RFC 2289, Appendix C, and refusals in their order.
+-- What the program prints for some inputs, as one theorem: a row of RFC 2289, Appendix C, for each algorithm, and refusals in their order.
 use mathlib.Core.Path.{_≡_, refl}
 use mathlib.Core.List.{List, [], _∷_, _++_, map, flatten}
 use Prim.Native.Nat.{ℕ}
@@ -11,9 +11,10 @@ use Rattle.digests.specs.Lists.{upTo}
 use Rattle.digests.specs.Padding.{paddedByte, paddedWord, blockAt, absorbed}
 use Rattle.digests.specs.Md5.{md5, registers}
 use Rattle.digests.specs.Rounds.{compressed, rounds, performed, operation, round1, round2, round3, round4}
+use Rattle.digests.specs.Sha1 as Sha1
 use Rattle.password.specs.Algorithm.{algorithmName}
 use Rattle.password.specs.PhraseAndSeed.{plain}
-use Rattle.password.specs.Password.{fold, numberAfter as bytesAfter, hash, password}
+use Rattle.password.specs.Password.{fold, foldWords, numberAfter as bytesAfter, hash, password}
 use Rattle.dictionary.specs.Words.{wordsIn, lines, words}
 use Rattle.sixwords.specs.Places.{pairs, pairSum, whole, cut, placesOf}
 use Rattle.sixwords.specs.Spelling.{spacedFrom}
@@ -46,11 +47,17 @@ unfolding typed answerOf printedCard linesAsked refusedText cardChecked indexOf 
     plain isCount opening algorithmName same tokenAt nextAt countAt seedAt challengeOf
 refusals = refl
 
--- the row of the pass-phrase `This is a test.` and the seed `TeSt` at count 1
-pub row : answerOf (typed (codes "This is a test." ∷ codes "otp-md5 1 TeSt" ∷ codes "1" ∷ []))
-    ≡ codes "1 7965e05436f5029f EASE OIL FUM CURE AWRY AVIS" ++ 10 ∷ []
+-- the rows of the pass-phrase `This is a test.` and the seed `TeSt` at count 1, by the challenge's algorithm
+pub rows : map answerOf (
+    typed (codes "This is a test." ∷ codes "otp-md5 1 TeSt" ∷ codes "1" ∷ [])
+    ∷ typed (codes "This is a test." ∷ codes "otp-sha1 1 TeSt" ∷ codes "1" ∷ [])
+    ∷ [])
+    ≡ (codes "1 7965e05436f5029f EASE OIL FUM CURE AWRY AVIS" ++ 10 ∷ [])
+    ∷ (codes "1 63d936639734385b CART OTTO HIVE ODE VAT NUT" ++ 10 ∷ [])
+    ∷ []
 unfolding typed answerOf printedCard linesAsked cardChecked cardOf cardText lineOf indexOf indexAfter runOf digitsOf numberAfter
-    codes every plain isCount opening algorithmName same tokenAt nextAt countAt seedAt challengeOf password hash fold bytesAfter md5
-    registers absorbed compressed rounds performed operation round1 round2 round3 round4 blockAt paddedWord paddedByte upTo
+    codes every plain isCount opening algorithmName same tokenAt nextAt countAt seedAt challengeOf password hash fold foldWords bytesAfter md5
+    registers absorbed compressed rounds performed operation round1 round2 round3 round4
+    Sha1.hashValue Sha1.compressed Sha1.schedule Sha1.longer Sha1.steps Sha1.step Sha1.f Sha1.K blockAt paddedWord paddedByte upTo
     spacedFrom placesOf cut whole pairs pairSum wordsIn lines words flatten
-row = refl
+rows = refl

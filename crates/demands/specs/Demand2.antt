@@ -78,8 +78,8 @@ pub generator-gives : (algorithm : Algorithm) (phrase seed : List ℕ) (count : 
 generator-gives algorithm phrase seed count long good low =
     generated-numbered algorithm phrase seed count ∙ generated-good algorithm phrase seed count long good low
 
--- A card's lines, by the algorithm that the challenge names: what stands on each, before and after it, and that its hex and its words read as the password that the generator gives at
--- that count.
+-- A card's lines, by the algorithm that the challenge names: what stands on each, before and after it, and that its hex and its words read
+-- as the password that the generator gives at that count.
 pub card-lines : (phrase challenge : List ℕ) (k : ℕ) → cardChecked phrase challenge k ≡ Checked.Good → (i : ℕ) → i < k →
     let n = countOf (challengeOf challenge) in
     let algorithm = algorithmOf (challengeOf challenge) in

@@ -38,7 +38,18 @@ use Rattle.reached.specs.RoomsFound.{holds-times, accounts-free}
 use Rattle.reached.specs.Outcome.{turn-good}
 use Rattle.grounds.specs.Conditions.{Row, Exactly, algorithmRows, seedRows, valuesRows, replyRows, turnRows, said, isThird, wrongRows, conditionsOf}
 use Rattle.grounds.specs.Exactly.{listedAs, Follows, no-rows, behind, behind-test, then-check, then-test}
-use Rattle.grounds.specs.Refusing.{answerChecked, answer-exactly, readChecked, writtenChecked, algorithm-rows, seed-rows, values-rows, not-leb, room-rows, reply-rows}
+use Rattle.grounds.specs.Refusing.{
+  answerChecked,
+  answer-exactly,
+  readChecked,
+  writtenChecked,
+  algorithm-rows,
+  seed-rows,
+  values-rows,
+  not-leb,
+  room-rows,
+  reply-rows,
+}
 use Rattle.grounds.specs.Keeps.{account-good}
 use Rattle.grounds.specs.Owned.{turn-there}
 use Rattle.grounds.specs.Answering.{kept-seed, seed-checked}

@@ -122,7 +122,8 @@ module _ (s : State) (none : accountsIn (s .rooms) ≡ 0) where
       let vacant = first-free (s .rooms) rooms (all-free (s .rooms) none) in
       let checked : enrolChecked id number count seed s ≡ ownChecks id number count seed =
       ap₂ (λ (taken room : Bool).
-      inOrder (idGiven id ∷ countWithin count ∷ algorithmChecked (numbered number) ∷ seedChecked seed ∷ must (not taken) Refusal.IdTaken ∷ must room Refusal.TableFull ∷ []))
+      inOrder (idGiven id ∷ countWithin count ∷ algorithmChecked (numbered number) ∷ seedChecked seed
+      ∷ must (not taken) Refusal.IdTaken ∷ must room Refusal.TableFull ∷ []))
       (not-there id) (vacant .1) in
       let did = go (enrolChecked id number count seed s) (placeOf 0 (s .rooms)) in (
         did .0 ∙ ap checkedAnswer checked,

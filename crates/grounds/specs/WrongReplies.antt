@@ -141,8 +141,8 @@ module _ (why : Refusal) (wrong : isIn (listingOf why .0) (61 ∷ 62 ∷ []) ≡
   unfolding Steps.enrol Steps.remove Steps.join Steps.leave Steps.reply Steps.replyRead Steps.renew Steps.renewRead enrolChecked joinChecked leaveChecked
   wrong-reply (Call.Enrol id number count seed password) s e =
       absurd (settled-other s _ (enrolChecked id number count seed s)
-      (checks-other (test (not (eqb id 0)) Refusal.IdZero ∷ test (leb 2 count && leb count 9999) Refusal.CountOutside ∷ ofAlgorithm (numbered number) ∷ ofSeed seed
-      ∷ test (not (isThere id s)) Refusal.IdTaken ∷ test (holds 0 (s .rooms)) Refusal.TableFull ∷ []) refl) e)
+      (checks-other (test (not (eqb id 0)) Refusal.IdZero ∷ test (leb 2 count && leb count 9999) Refusal.CountOutside
+      ∷ ofAlgorithm (numbered number) ∷ ofSeed seed ∷ test (not (isThere id s)) Refusal.IdTaken ∷ test (holds 0 (s .rooms)) Refusal.TableFull ∷ []) refl) e)
   wrong-reply (Call.Remove id) s e =
       absurd (settled-other s _ (accountThere id s) (test-never (61 ∷ 62 ∷ []) why wrong (isThere id s) Refusal.AccountMissing refl) e)
   wrong-reply (Call.Join port id) s e =

@@ -91,7 +91,8 @@ module _ (P : List Port) (W : Waiting) (l m : List Room) (h : SameAccounts l m) 
     enrol-check : (id number count : ℕ) (seed : List ℕ) → enrolChecked id number count seed (table P W l) ≡ enrolChecked id number count seed (table P W m)
     unfolding enrolChecked
     enrol-check id number count seed =
-        ap₂ (λ (a b : Bool). inOrder (idGiven id ∷ countWithin count ∷ algorithmChecked (numbered number) ∷ seedChecked seed ∷ must (not a) Refusal.IdTaken ∷ must b Refusal.TableFull ∷ []))
+        ap₂ (λ (a b : Bool). inOrder (idGiven id ∷ countWithin count ∷ algorithmChecked (numbered number) ∷ seedChecked seed
+        ∷ must (not a) Refusal.IdTaken ∷ must b Refusal.TableFull ∷ []))
         (there-same id) room-same
 
   -- A check that looks at an account, where it is there, and at its count.
@@ -126,7 +127,8 @@ module _ (P : List Port) (W : Waiting) (l m : List Room) (h : SameAccounts l m) 
     where
       renewBy : Checked → Room → Checked
       renewBy turn room =
-          inOrder (turn ∷ countWithin count ∷ algorithmChecked (numbered number) ∷ seedChecked seed ∷ must (not (same (map lowerOf seed) (room .seed))) Refusal.SeedSame ∷ [])
+          inOrder (turn ∷ countWithin count ∷ algorithmChecked (numbered number) ∷ seedChecked seed
+          ∷ must (not (same (map lowerOf seed) (room .seed))) Refusal.SeedSame ∷ [])
 
       by : (k : Checked) → turnChecked port (table P W l) ≡ k
           → renewBy (turnChecked port (table P W l)) (accountOf (turnId (table P W l)) (table P W l))
@@ -197,7 +199,8 @@ module _ (P : List Port) (W : Waiting) (l m : List Room) (h : SameAccounts l m) 
       by : (k : Checked) → turnChecked port (table P W l) ≡ k → steps.challenge port room (table P W l) ≡ steps.challenge port room (table P W m)
       by Checked.Good e =
           challenge-done port (table P W l) room e
-          ∙ ap (λ (r : Room). challengeWrittenBy (r .algorithm) (r .seed) (r .count - 1) room) (account-same (turnId (table P W l)) (turn-passed port (table P W l) e .there))
+          ∙ ap (λ (r : Room). challengeWrittenBy (r .algorithm) (r .seed) (r .count - 1) room)
+          (account-same (turnId (table P W l)) (turn-passed port (table P W l) e .there))
           ∙ sym (challenge-done port (table P W m) room (sym (turn-check port) ∙ e))
       by (Checked.Refused why) e =
           challenge-refused port (table P W l) room why e ∙ sym (challenge-refused port (table P W m) room why (sym (turn-check port) ∙ e))

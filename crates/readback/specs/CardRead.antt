@@ -40,7 +40,9 @@ module _ (phrase challenge : List ℕ) (k : ℕ) (e : cardChecked phrase challen
       let n = countOf (challengeOf challenge) in
       let passwordAt = password algorithm phrase (seedOf challenge) in
       let small = password-bound algorithm phrase (seedOf challenge) (n - i) in
-      let there = sym (generated-numbered algorithm phrase (seedOf challenge) (n - i) ∙ card-generated phrase challenge k e algorithm (n - i) (omega arith)) in (
+      let there =
+      sym (generated-numbered algorithm phrase (seedOf challenge) (n - i)
+      ∙ card-generated phrase challenge k e algorithm (n - i) (omega arith)) in (
         card-line passwordAt i k n h,
         hex-written-read (passwordAt (n - i)) small ∙ there,
         words-written-read (passwordAt (n - i)) small ∙ there,

@@ -201,7 +201,8 @@ module _ (algorithm : Algorithm) (seed : List ℕ) (count : ℕ) (good : seedChe
       from-seed text opening-read algorithm name-read
       (ap isCount count-read ∙ decimal-count count low) count (ap (numberOf 10) count-read ∙ decimal-number count low)
       ∙ all-good text algorithm count (seedAt text) (ap seedChecked seed-read ∙ lower-good seed good) ended
-      ∙ ap₂ (λ (s l : ℕ). Challenge.Read algorithm count s l (endOf text (seedAt text) + 1)) (seed-at ∙ before-seed) (ap length seed-read ∙ length-map seed lowerOf)
+      ∙ ap₂ (λ (s l : ℕ). Challenge.Read algorithm count s l (endOf text (seedAt text) + 1)) (seed-at ∙ before-seed)
+      (ap length seed-read ∙ length-map seed lowerOf)
       ∙ ap (Challenge.Read algorithm count (6 + length (algorithmName algorithm) + widthOf count) (length seed)) end-at
 
   -- the seed in lower case

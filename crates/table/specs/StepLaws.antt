@@ -136,7 +136,8 @@ module _ (port : ℕ) (s : State) where
   challenge-refused room why e = rw e
 
   pub challenge-done : (room : ℕ) → turnChecked port s ≡ Checked.Good
-      → steps.challenge port room s ≡ challengeWrittenBy (accountOf (turnId s) s .algorithm) (accountOf (turnId s) s .seed) (accountOf (turnId s) s .count - 1) room
+      → steps.challenge port room s
+      ≡ challengeWrittenBy (accountOf (turnId s) s .algorithm) (accountOf (turnId s) s .seed) (accountOf (turnId s) s .count - 1) room
   unfolding steps.challenge
   challenge-done room e = rw e
 
@@ -144,7 +145,8 @@ module _ (port number count : ℕ) (seed : List ℕ) (s : State) where
   pub renew-passed : renewChecked port number count seed s ≡ Checked.Good → RenewPassed port number count seed s
   unfolding renewChecked
   renew-passed e =
-      let found = each-good (turnChecked port s ∷ countWithin count ∷ algorithmChecked (numbered number) ∷ seedChecked seed ∷ seedNew seed (turnId s) s ∷ []) e in
+      let found = each-good (turnChecked port s ∷ countWithin count ∷ algorithmChecked (numbered number) ∷ seedChecked seed
+      ∷ seedNew seed (turnId s) s ∷ []) e in
       record {
         turn = found .0;
         within = must-good _ _ (found .1 .0);

@@ -103,8 +103,9 @@ challenge port room s =
     unless Written.Refused (turnChecked port s)
     (challengeWrittenBy (accountOf (turnId s) s .algorithm) (accountOf (turnId s) s .seed) (accountOf (turnId s) s .count - 1) room)
 
--- "Hash the password once", by the account's present algorithm. "If it equals the stored one" the account becomes `next`, the port's wrong run is cleared and "the
--- port leaves; the answer has the new count. If not: the port leaves and its wrong run grows by 1, answer 61 [or] 62".
+-- "Hash the password once", by the account's present algorithm. "If it equals the stored one" the account becomes `next`, the
+-- port's wrong run is cleared and "the port leaves; the answer has the new count. If not: the port leaves and its wrong run
+-- grows by 1, answer 61 [or] 62".
 abbrev pub accepted : ℕ → Room → State → After Replied
 accepted port next s = record {
   answer = Replied.Accepted (next .count);

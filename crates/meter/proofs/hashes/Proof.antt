@@ -6,10 +6,10 @@ use Rattle.meter.proofs.hashes.Statement.{statement}
 use Rattle.meter.proofs.hashes.Tie as tie
 
 abbrev Inv-loop : tie.InvT-loop
-Inv-loop times p₀ k₀ p k = k ≤ times
+Inv-loop algorithm times p₀ k₀ p k = k ≤ times
 
 abbrev μ-loop : tie.MeasureT-loop
-μ-loop times p₀ k₀ p k = times - k
+μ-loop algorithm times p₀ k₀ p k = times - k
 
 pub hashes-spec : {M : Type 1} → statement M
 hashes-spec =

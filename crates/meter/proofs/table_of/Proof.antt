@@ -8,10 +8,10 @@ use Rattle.meter.proofs.table_of.Statement.{statement}
 use Rattle.meter.proofs.table_of.Tie as tie
 
 abbrev Inv-loop : tie.InvT-loop
-Inv-loop accounts stored t₀ id₀ seed t id = (id ≤ accounts) × (length seed ≡ 10)
+Inv-loop algorithm accounts stored t₀ id₀ seed t id = (id ≤ accounts) × (length seed ≡ 10)
 
 abbrev μ-loop : tie.MeasureT-loop
-μ-loop accounts stored t₀ id₀ seed t id = accounts - id
+μ-loop algorithm accounts stored t₀ id₀ seed t id = accounts - id
 
 pub table-of-spec : {M : Type 1} → statement M
 table-of-spec =

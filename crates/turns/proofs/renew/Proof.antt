@@ -21,7 +21,8 @@ returns c =
     let place = looked .place-of .ensures .0 ∙ ap (λ (id : ℕ). placeOf id (s .rooms)) (looked .before .turn-id .ensures) in
     let turn = taken .turn-of .ensures ∙ ap (λ (n : ℕ). seenAt (a .port) n s) place in
     c .put-back .ensures
-    ∙ ap (after (a .port) s) (done .renewed .ensures ∙ ap (spec.renewed (a .port) (a .algorithm) (a .count) (a .seed .now) (a .password .now) (a .text .now)) turn)
+    ∙ ap (after (a .port) s)
+    (done .renewed .ensures ∙ ap (spec.renewed (a .port) (a .algorithm) (a .count) (a .seed .now) (a .password .now) (a .text .now)) turn)
     ∙ after-renew (a .port) s (a .algorithm) (a .count) (a .seed .now) (a .password .now) (a .text .now)
 
 pub renew-spec : {M : Type 1} → statement M

@@ -1,6 +1,4 @@
 -- `lower` meets its promise: the same account, one count down, with the password.
-use Prim.Native.Nat.{ℕ}
-use mathlib.Core.Path.{ap}
 use borrow.Author.Needs.{needs}
 use lib.ListN.{take}
 use Rattle.accounts.proofs.lowered.lower.Statement.{statement}
@@ -9,7 +7,13 @@ use Rattle.accounts.proofs.lowered.lower.Tie as tie
 returns : tie.Need-returns
 returns c =
     let a = c .before .args .account in
-    ap (λ (n : ℕ). record { id = a .id; algorithm = a .algorithm; seed = take (a .len) (a .seed); count = n; password = c .before .args .password }) (c .count-below .ensures)
+    λ i. record {
+      id = a .id;
+      algorithm = a .algorithm;
+      seed = take (a .len) (a .seed);
+      count = c .count-below .ensures i;
+      password = c .before .args .password;
+    }
 
 pub lower-spec : {M : Type 1} → statement M
 lower-spec = tie.close (tie.spec (λ c κs. search needs) returns)

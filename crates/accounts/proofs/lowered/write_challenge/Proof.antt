@@ -25,9 +25,10 @@ returns c =
     let counted = wrote .before .before .before in
     let a = counted .before .before .before .before .args in
     let seed = all-taken (counted .before .seed-len .result) (a .account .len) (a .account .seed) (counted .before .seed-len .ensures .0) in
+    let algorithm = a .account .algorithm in
     let count = counted .count-below .ensures in (
-      wrote .write-by .ensures .0 ∙ ap₂ (λ (s : List ℕ) (n : ℕ). challengeWrittenBy (a .account .algorithm) s n (length (a .buf .now))) seed count,
-      wrote .write-by .ensures .1 ∙ ap₂ (λ (s : List ℕ) (n : ℕ). leaves (wrote .write-by .result) (challengeText (a .account .algorithm) s n) (a .buf .now)) seed count,
+      wrote .write-by .ensures .0 ∙ ap₂ (λ (s : List ℕ) (n : ℕ). challengeWrittenBy algorithm s n (length (a .buf .now))) seed count,
+      wrote .write-by .ensures .1 ∙ ap₂ (λ (s : List ℕ) (n : ℕ). leaves (wrote .write-by .result) (challengeText algorithm s n) (a .buf .now)) seed count,
     )
 
 pub write-challenge-spec : {M : Type 1} → statement M

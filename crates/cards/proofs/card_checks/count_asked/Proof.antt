@@ -24,7 +24,8 @@ module _ (phrase challenge : List ℕ) (k : ℕ) where
     unfolding countAsked cardChecked
     refused-challenge why f = rw (e, f)
 
-    counted : (algorithm : Algorithm) (n s l u : ℕ) → challengeOf challenge ≡ Challenge.Read algorithm n s l u → linesCounted k n ≡ countAsked phrase challenge k
+    counted : (algorithm : Algorithm) (n s l u : ℕ) → challengeOf challenge ≡ Challenge.Read algorithm n s l u
+        → linesCounted k n ≡ countAsked phrase challenge k
     unfolding countAsked cardChecked
     counted algorithm n s l u f = rw (e, f)
 

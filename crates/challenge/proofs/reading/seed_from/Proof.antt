@@ -52,7 +52,8 @@ returns-2 c =
 returns-3 : tie.Need-returns-3
 returns-3 c =
     let at = seed (c .before .before) in
-    ap (λ (t : List ℕ). Challenge.Read (at .before .before .args .algorithm) (at .before .before .args .count) (start at) (length t) (start at + length t + 1)) (at .token .ensures)
+    let a = at .before .before .args in
+    ap (λ (t : List ℕ). Challenge.Read (a .algorithm) (a .count) (start at) (length t) (start at + length t + 1)) (at .token .ensures)
     ∙ sym (all-good (text at) _ _ (start at) (good (c .before)) (sym (ended (c .before)) ∙ not-false _ (c .if1 .left)))
 
 pub seed-from-spec : {M : Type 1} → statement M

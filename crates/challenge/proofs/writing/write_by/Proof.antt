@@ -34,7 +34,8 @@ module _ (algorithm : Algorithm) (seed : List ℕ) (count room : ℕ) where
     unfolding challengeWrittenBy
     then-written h = rw (e, le-ltb 9999 count h)
 
-    short : count ≤ 9999 → room < length (algorithmName algorithm) + widthOf count + length seed + 7 → Written.Refused Refusal.BufferShort ≡ challengeWrittenBy algorithm seed count room
+    short : count ≤ 9999 → room < length (algorithmName algorithm) + widthOf count + length seed + 7
+        → Written.Refused Refusal.BufferShort ≡ challengeWrittenBy algorithm seed count room
     short h g = sym (then-written h ∙ rw (lt-leb (length (challengeText algorithm seed count)) room (rw length-challenge g)))
 
     fits : (n : ℕ) → count ≤ 9999 → length (algorithmName algorithm) + widthOf count + length seed + 7 ≤ room

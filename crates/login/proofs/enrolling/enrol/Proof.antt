@@ -27,7 +27,8 @@ enrol-found : (id number count : ℕ) (seed : List ℕ) (s : State) (place room 
 unfolding enrolChecked
 enrol-found id number count seed s place room held left =
     (λ i. inOrder (enrolChecks (not (eqb id 0)) (values-enrolled number count seed i) (not (not (eqb id 0) && held i)) (left i)))
-    ∙ ap (unless Checked.Refused (idGiven id)) (in-parts (countWithin count ∷ algorithmChecked (numbered number) ∷ seedChecked seed ∷ []) (idNew id s ∷ roomLeft s ∷ []))
+    ∙ ap (unless Checked.Refused (idGiven id))
+    (in-parts (countWithin count ∷ algorithmChecked (numbered number) ∷ seedChecked seed ∷ []) (idNew id s ∷ roomLeft s ∷ []))
 
 abbrev from : tie.After-check-enrol → tie.Start
 from c = c .before .before .before .before .before
@@ -46,7 +47,8 @@ checked : (c : tie.After-check-enrol) → c .check-enrol .result
 checked c =
     let a = from c .args in
     found c
-    ∙ enrol-found (a .id) (a .algorithm) (a .count) (a .seed .now) (view (a .table)) (c .before .before .before .place-of .result) (c .before .before .place-of2 .result)
+    ∙ enrol-found (a .id) (a .algorithm) (a .count) (a .seed .now) (view (a .table))
+    (c .before .before .before .place-of .result) (c .before .before .place-of2 .result)
     (c .before .before .before .place-of .ensures .1) (c .before .before .place-of2 .ensures .1)
 
 returns : tie.Need-returns

@@ -15,7 +15,8 @@ from c = c .before .before .before .before .before
 
 -- What was checked: the turn, and the values that were proposed.
 checked : (c : tie.After-check-renew) → c .check-renew .result
-    ≡ spec.renewChecked (from c .args .port) (valuesChecked (from c .args .algorithm) (from c .args .count) (from c .args .seed .now) (roomOf (from c .args .turn .account)))
+    ≡ spec.renewChecked (from c .args .port)
+    (valuesChecked (from c .args .algorithm) (from c .args .count) (from c .args .seed .now) (roomOf (from c .args .turn .account)))
     (seen (from c .args .turn))
 checked c = c .check-renew .ensures
     ∙ ap (λ (p : Proposal). spec.renewChecked (from c .args .port) (p .checked) (seen (from c .args .turn))) (c .before .propose .ensures)
