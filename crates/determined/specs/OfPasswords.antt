@@ -1,13 +1,19 @@
--- The promises of `block`, `md5`, `password` and `generator` determine their results.
+-- The promises of `block`, `md5`, `sha1`, `password` and `generator` determine their results.
 use mathlib.Core.Path.{sym, _∙_}
 use denote.Ref.{now}
 use Rattle.block.proofs.count.Reads as count
+use Rattle.block.proofs.joined.Reads as joined
 use Rattle.block.proofs.block.Reads as block
 use Rattle.block.proofs.arithmetic.add.Reads as add
 use Rattle.block.proofs.arithmetic.rotated.Reads as rotated
+use Rattle.block.proofs.put.word.Reads as put-word
+use Rattle.block.proofs.put.two_words.Reads as put-two-words
 use Rattle.md5.proofs.compress.compress_eight.Reads as compress-eight
 use Rattle.md5.proofs.compress.registers.Reads as registers
 use Rattle.md5.proofs.digest.digest.Reads as digest
+use Rattle.sha1.proofs.compress.compress_eight.Reads as sha1-compress-eight
+use Rattle.sha1.proofs.compress.registers.Reads as sha1-registers
+use Rattle.sha1.proofs.digest.digest.Reads as sha1-digest
 use Rattle.password.proofs.phrase_and_seed.check_phrase.Reads as check-phrase
 use Rattle.password.proofs.phrase_and_seed.check_seed.Reads as check-seed
 use Rattle.password.proofs.phrase_and_seed.put_lower.Reads as put-lower
@@ -20,6 +26,9 @@ use Rattle.determined.specs.Determined.{Answers, AnswersAndLent, both, l
 pub count-determined : Answers count.Learnt
 count-determined k a y z e f p q = p ∙ sym q
 
+pub joined-determined : Answers joined.Learnt
+joined-determined k a y z e f p q = p ∙ sym q
+
 pub block-determined : Answers block.Learnt
 block-determined k a y z e f p q = p ∙ sym q
 
@@ -29,6 +38,12 @@ add-determined k a y z e f p q = p ∙ sym q
 pub rotated-determined : Answers rotated.Learnt
 rotated-determined k a y z e f p q = p ∙ sym q
 
+pub put-word-determined : AnswersAndLent put-word.Learnt (λ k e. now (e .1 .0))
+put-word-determined k a y z e f p q = both p q
+
+pub put-two-words-determined : AnswersAndLent put-two-words.Learnt (λ k e. now (e .1 .0))
+put-two-words-determined k a y z e f p q = both p q
+
 pub compress-eight-determined : Answers compress-eight.Learnt
 compress-eight-determined k a y z e f p q = p ∙ sym q
 
@@ -37,6 +52,15 @@ registers-determined k a y z e f p q = p ∙ sym q
 
 pub digest-determined : AnswersAndLent digest.Learnt (λ k e. now (e .1 .0))
 digest-determined k a y z e f p q = left _ _ p q
+
+pub sha1-compress-eight-determined : Answers sha1-compress-eight.Learnt
+sha1-compress-eight-determined k a y z e f p q = p ∙ sym q
+
+pub sha1-registers-determined : Answers sha1-registers.Learnt
+sha1-registers-determined k a y z e f p q = p ∙ sym q
+
+pub sha1-digest-determined : AnswersAndLent sha1-digest.Learnt (λ k e. now (e .1 .0))
+sha1-digest-determined k a y z e f p q = left _ _ p q
 
 pub check-phrase-determined : Answers check-phrase.Learnt
 check-phrase-determined k a y z e f p q = p ∙ sym q
