@@ -6,6 +6,8 @@ from harness import ROOT, Failed
 CRATES = ROOT / "crates"
 PAGE = ROOT / "docs" / "PROMISES.md"
 DETERMINED = CRATES / "determined" / "specs"
+# the headings of the page whose rows lead from a paper's sentence to its statement
+PAPERS = ("The letter's demands", "Document 01", "Document 02")
 
 
 def section(heading):
@@ -60,11 +62,11 @@ def edits():
 
 
 def theorems():
-    """The theorems of the letter's sentences and of document 01's."""
+    """The theorems of the sentences of the letter and of the documents."""
     stated = set()
     for path in CRATES.glob("*/specs/**/*.antt"):
         stated |= set(re.findall(r"^\s*pub ([\w-]+)(?: \{[^}]*\})? :", path.read_text(), re.M))
-    names = {name for heading in ("The letter's demands", "Document 01") for cells in section(heading)
+    names = {name for heading in PAPERS for cells in section(heading)
              for name in re.findall(r"`([a-z\d]+(?:-[a-z\d]+)+)`", cells[1])}
     if names - stated:
         raise Failed(f"stated nowhere: {', '.join(sorted(names - stated))}")
@@ -74,7 +76,7 @@ def theorems():
 def promised():
     """The functions, or modules, that the sentences' statements name."""
     known = {name for name, _ in functions()}
-    names = {name for heading in ("The letter's demands", "Document 01") for cells in section(heading)
+    names = {name for heading in PAPERS for cells in section(heading)
              for name in re.findall(r"`(\w+(?:::\w+)+)`", cells[1])}
     for name in sorted(names - known):
         crate, *inside = name.split("::")
@@ -85,7 +87,7 @@ def promised():
 
 def pages():
     """The files that the sentences' statements name behind a crate."""
-    names = {pair for heading in ("The letter's demands", "Document 01") for cells in section(heading)
+    names = {pair for heading in PAPERS for cells in section(heading)
              for pair in re.findall(r"`(\w+)` ([A-Z]\w+)", cells[1])}
     for crate, page in sorted(names):
         if not (CRATES / crate / "specs" / f"{page}.antt").is_file():
