@@ -11,6 +11,9 @@ KIT = {"bytes", "check", "io", "libc", "os"}
 KINDS = {"lib", "main", "laws", "inside", "examples"}
 # A standard's definition has the name of the code that does it.
 DEFINED = {("digests", "md5"), ("digests", "sha1"), ("digests", "rounds")}
+# The digests are of one kind, and what is the same part of each has one name.
+DIGESTS = {"md5", "sha1"}
+PARTS = {"compress", "digest", "functions"}
 # The crates of a table's fields: who takes a table apart lists them too.
 FIELDS = {"accounts", "line", "port"}
 
@@ -104,7 +107,7 @@ def one_thing(brought):
     homes = collections.defaultdict(set)
     for crate, found in brought.items():
         for (kind, name), count in collections.Counter(found).items():
-            if name not in KINDS and (crate, name) not in DEFINED:
+            if name not in KINDS and (crate, name) not in DEFINED and not (crate in DIGESTS and name in PARTS):
                 homes[name].add(crate)
             if count > 1 and not (kind == "proofs" and name == "lib"):
                 raise Failed(f"{crate}: {count} files for {kind} are called {name}")

@@ -19,6 +19,9 @@ use Rattle.password.proofs.phrase_and_seed.check_seed.Reads as check-seed
 use Rattle.password.proofs.phrase_and_seed.put_lower.Reads as put-lower
 use Rattle.generator.proofs.chain.step.Reads as step
 use Rattle.generator.proofs.generate.Reads as generate
+use Rattle.generator.proofs.generate_by.Reads as generate-by
+use Rattle.password.proofs.algorithm.numbered.Reads as numbered
+use Rattle.password.proofs.algorithm.number_of.Reads as algorithm-number-of
 use Rattle.password.proofs.eight_bytes.number_of.Reads as number-of
 use Rattle.password.proofs.eight_bytes.bytes_of.Reads as bytes-of
 use Rattle.determined.specs.Determined.{Answers, AnswersAndLent, both, left}
@@ -76,6 +79,15 @@ step-determined k a y z e f p q = p ∙ sym q
 
 pub generate-determined : Answers generate.Learnt
 generate-determined k a y z e f p q = p ∙ sym q
+
+pub generate-by-determined : Answers generate-by.Learnt
+generate-by-determined k a y z e f p q = p ∙ sym q
+
+pub numbered-determined : Answers numbered.Learnt
+numbered-determined k a y z e f p q = p ∙ sym q
+
+pub algorithm-number-of-determined : Answers algorithm-number-of.Learnt
+algorithm-number-of-determined k a y z e f p q = p ∙ sym q
 
 pub number-of-determined : Answers number-of.Learnt
 number-of-determined k a y z e f p q = p ∙ sym q
