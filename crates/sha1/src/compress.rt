@@ -53,9 +53,9 @@ fn compress(w0: [u32; 16], h: FiveWords) -> FiveWords
     summed(sixteen_of(64, v4, w4), h)
 }
 
-// The hash value after a message of eight bytes, given as two words. Its one block has the bit after them and ends with the length, 64 bits. The
-// steps are written again here: fourteen words of the block are constants, and with them in sight the compiler makes
-// a chain step shorter by an eighth.
+// The hash value after a message of eight bytes, given as two words. Its one block has the bit after them and ends with
+// the length, 64 bits. The steps are written again here: fourteen words of the block are constants, and where the
+// compiler sees them it leaves out a seventh of a chain step's instructions.
 pub fn compress_eight(first: u32, second: u32) -> FiveWords
     ensures { λ r. ⌜ r ≡ spec.hashValue (bytes4 Order.Big first ++ bytes4 Order.Big second) ⌝ }
 {
