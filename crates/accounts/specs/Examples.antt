@@ -6,9 +6,9 @@ use Rattle.password.specs.declared.algorithm.Algorithm.{Algorithm}
 use Rattle.accounts.specs.Rooms.{Room, free, placeOf}
 
 -- Five rooms, two of them free and two with one id: the first with 7, the first free one, the first with 9, none with 8.
-abbrev numbered : ℕ → Room
-numbered id = record { id = id; algorithm = Algorithm.Md5; seed = []; count = 0; password = 0 }
+abbrev withId : ℕ → Room
+withId id = record { id = id; algorithm = Algorithm.Md5; seed = []; count = 0; password = 0 }
 
-pub first-places : map (λ (id : ℕ). placeOf id (numbered 7 ∷ free ∷ numbered 9 ∷ free ∷ numbered 9 ∷ [])) (7 ∷ 0 ∷ 9 ∷ 8 ∷ []) ≡ 0 ∷ 1 ∷ 2 ∷ 5 ∷ []
+pub first-places : map (λ (id : ℕ). placeOf id (withId 7 ∷ free ∷ withId 9 ∷ free ∷ withId 9 ∷ [])) (7 ∷ 0 ∷ 9 ∷ 8 ∷ []) ≡ 0 ∷ 1 ∷ 2 ∷ 5 ∷ []
 unfolding placeOf
 first-places = refl

@@ -123,5 +123,5 @@ challengeWritten number seed count room =
     (challengeWrittenBy (algorithmIn (numbered number)) seed count room)
 
 -- and the text that it writes
-abbrev pub challengeNumbered : ℕ → List ℕ → ℕ → List ℕ
-challengeNumbered number seed count = challengeText (algorithmIn (numbered number)) seed count
+abbrev pub textByNumber : ℕ → List ℕ → ℕ → List ℕ
+textByNumber number seed count = challengeText (algorithmIn (numbered number)) seed count

@@ -80,7 +80,7 @@ pub fn write_by(algorithm: Algorithm, seed: &[u8], count: u32, buf: &mut [u8]) -
 // The same by the algorithm's number: 21 before the other faults.
 pub fn write(algorithm: u32, seed: &[u8], count: u32, buf: &mut [u8]) -> Written
     ensures answered { λ r. ⌜ r ≡ spec.challengeWritten algorithm (now (seed .entry)) count (length (now (buf .entry))) ⌝ }
-    ensures left { λ r. ⌜ now (buf .exit) ≡ leaves r (spec.challengeNumbered algorithm (now (seed .entry)) count) (now (buf .entry)) ⌝ }
+    ensures left { λ r. ⌜ now (buf .exit) ≡ leaves r (spec.textByNumber algorithm (now (seed .entry)) count) (now (buf .entry)) ⌝ }
 {
     let Named::Is(known) = numbered(algorithm) else {
         return Written::Refused(Refusal::AlgorithmUnknown);

@@ -16,7 +16,7 @@ use Rattle.block.specs.Digest.{digestOf}
 use Rattle.password.specs.declared.algorithm.Algorithm.{Algorithm}
 use Rattle.password.specs.PhraseAndSeed.{phraseChecked, seedChecked}
 use Rattle.password.specs.Password.{digestBy, generated}
-use Rattle.challenge.specs.Challenges.{challengeOf, challengeNumbered, challengeWritten}
+use Rattle.challenge.specs.Challenges.{challengeOf, textByNumber, challengeWritten}
 use Rattle.hex.specs.Hex.{hexOf, sixteenDigits, hexReading}
 use Rattle.sixwords.specs.Spelling.{wordsOf}
 use Rattle.reply.specs.Reply.{readingOf}
@@ -91,7 +91,7 @@ challenge-refusals text = Refusing.challenge-exactly text
 -- "the challenge writer 23, 24, 13, 40", and R-1's 21 "first"
 pub challenge-writer-refusals : (number : ℕ) (seed : List ℕ) (count room : ℕ)
     → Exactly (writtenNumber (challengeWritten number seed count room))
-    (algorithmRows number ++ seedRows seed ++ (13, ltb 9999 count) ∷ roomRows room (challengeNumbered number seed count))
+    (algorithmRows number ++ seedRows seed ++ (13, ltb 9999 count) ∷ roomRows room (textByNumber number seed count))
 challenge-writer-refusals number seed count room = Refusing.challenge-writer-exactly number seed count room
 
 -- "the word and hex writers only 40"

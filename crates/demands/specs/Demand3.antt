@@ -83,8 +83,9 @@ later-reply-is-accepted s r p i t phrase long unused stored buffer room during q
     day-later p i phrase buffer s (made s r) t unused long stored room during q u
 
 -- R-1, "renewal may change it": after an accepted renewal, also one to another algorithm, whose new password is what a pass-phrase gives with the
--- new algorithm, seed and count, the account's stored password is what `reply-is-accepted` asks for in a later turn.
+-- new algorithm, seed and count, the account isn't used up and its stored password is what `reply-is-accepted` asks for, in a later turn.
 pub renewal-begins-a-day : (p n number count : ℕ) (seed new text : List ℕ) (s : State) → renew p number count seed new text s .answer ≡ Replied.Accepted n
     → (phrase : List ℕ) → numberOf new ≡ password (algorithmIn (numbered number)) phrase seed count
-    → (let room = accountOf (turnId s) (renew p number count seed new text s .state) in room .password ≡ passwordOf phrase room (room .count))
+    → (let room = accountOf (turnId s) (renew p number count seed new text s .state) in
+    (1 < room .count) × (room .password ≡ passwordOf phrase room (room .count)))
 renewal-begins-a-day p n number count seed new text s e phrase given = renewed-stored p n number count seed new text s e phrase given

@@ -218,8 +218,11 @@ kept-passwords algorithm phrase seed (suc n) = ap (λ (w : ℕ). hash algorithm 
 -- Where the new password is what the pass-phrase gives with the new values, the account has what the pass-phrase gives.
 pub renewed-stored : (p n number count : ℕ) (seed new text : List ℕ) (s : State) → Steps.renew p number count seed new text s .answer ≡ Replied.Accepted n
     → (phrase : List ℕ) → numberOf new ≡ password (algorithmIn (numbered number)) phrase seed count
-    → (let room = accountOf (turnId s) (Steps.renew p number count seed new text s .state) in room .password ≡ passwordOf phrase room (room .count))
+    → (let room = accountOf (turnId s) (Steps.renew p number count seed new text s .state) in
+    (1 < room .count) × (room .password ≡ passwordOf phrase room (room .count)))
 renewed-stored p n number count seed new text s e phrase given =
-    subst (λ (room : Room). room .password ≡ passwordOf phrase room (room .count))
-    (sym (taken-renews p n number count seed new text s e .1 .becomes))
-    (given ∙ kept-passwords (algorithmIn (numbered number)) phrase seed count)
+    let renewed = taken-renews p n number count seed new text s e .1 in (
+      renewed .unused,
+      subst (λ (room : Room). room .password ≡ passwordOf phrase room (room .count)) (sym (renewed .becomes))
+          (given ∙ kept-passwords (algorithmIn (numbered number)) phrase seed count),
+    )

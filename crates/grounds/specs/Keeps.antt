@@ -69,13 +69,13 @@ there-after c s (Outcome.enrolled z room a n t f) h =
     (λ place k. other-there (place .id) 0 (s .rooms) room (there-parts (place .id) (s .rooms) k .0)
     (λ e. true≢false (sym k ∙ ap (λ (j : ℕ). isThere j s) (sym e) ∙ t)) k)
     (s .line .places) h
-there-after c s (Outcome.removed z id t n) h =
+there-after c s (Outcome.removed z id t n k) h =
     stay (There s) (There (withRoom (placeOf id (s .rooms)) free s)) (s .line) (ofAccount id)
     (λ place k g. other-there (place .id) id (s .rooms) free (eqb-false (place .id) id g)
     (λ e. there-parts (place .id) (s .rooms) k .0 (sym e)) k) h
 there-after c s (Outcome.joined z port id k t n o b) h = come (There s) (There s) (s .line) port id (λ place g. g) t h
 there-after c s (Outcome.left z port n) h = stay (There s) (There s) (s .line) (ofPort port) (λ place k g. k) h
-there-after c s (Outcome.accepted z port next g n i a) h =
+there-after c s (Outcome.accepted z port next g n i a k) h =
     stay (There s) (There (withRoom (placeOf (turnId s) (s .rooms)) next s)) (s .line) (ofPort port) (λ place k f. kept place k) h
   where
     kept : (place : Place) → There s place → There (withRoom (placeOf (turnId s) (s .rooms)) next s) place
@@ -107,10 +107,10 @@ unshut-after : (c : Call) (s : State) {s′ : State} → Outcome c s s′ → Ea
 unfolding Unshut Steps.tick
 unshut-after c s (Outcome.nothing z) h = h
 unshut-after c s (Outcome.enrolled z room a n t f) h = h
-unshut-after c s (Outcome.removed z id t n) h = stay (Unshut s) (Unshut s) (s .line) (ofAccount id) (λ place k g. k) h
+unshut-after c s (Outcome.removed z id t n k) h = stay (Unshut s) (Unshut s) (s .line) (ofAccount id) (λ place k g. k) h
 unshut-after c s (Outcome.joined z port id k t n o b) h = come (Unshut s) (Unshut s) (s .line) port id (λ place g. g) o h
 unshut-after c s (Outcome.left z port n) h = stay (Unshut s) (Unshut s) (s .line) (ofPort port) (λ place k g. k) h
-unshut-after c s (Outcome.accepted z port next g n i a) h =
+unshut-after c s (Outcome.accepted z port next g n i a k) h =
     stay (Unshut s) (Unshut (withPort port (rightly (portOf port s)) s)) (s .line) (ofPort port)
     (λ place k f. unshut-others s port (rightly (portOf port s)) place k f) h
 unshut-after c s (Outcome.rejected z port g n) h =
@@ -133,10 +133,10 @@ good-after : (c : Call) (s : State) {s′ : State} → Outcome c s s′ → Each
 unfolding Steps.tick
 good-after c s (Outcome.nothing z) h = h
 good-after c s (Outcome.enrolled z room a n t f) h = each-set RoomGood (s .rooms) (placeOf 0 (s .rooms)) room h (λ m. a)
-good-after c s (Outcome.removed z id t n) h = each-set RoomGood (s .rooms) (placeOf id (s .rooms)) free h (λ m. absurd (m refl))
+good-after c s (Outcome.removed z id t n k) h = each-set RoomGood (s .rooms) (placeOf id (s .rooms)) free h (λ m. absurd (m refl))
 good-after c s (Outcome.joined z port id k t n o b) h = h
 good-after c s (Outcome.left z port n) h = h
-good-after c s (Outcome.accepted z port next g n i a) h =
+good-after c s (Outcome.accepted z port next g n i a k) h =
     each-set RoomGood (s .rooms) (placeOf (turnId s) (s .rooms)) next h (λ m. a (account-good (turnId s) s (g .there) h))
 good-after c s (Outcome.rejected z port g n) h = h
 good-after c s (Outcome.ticked z) h = h
@@ -147,10 +147,10 @@ runs-after : (c : Call) (s : State) {s′ : State} → Outcome c s s′ → Each
 unfolding Steps.tick
 runs-after c s (Outcome.nothing z) h = h
 runs-after c s (Outcome.enrolled z room a n t f) h = h
-runs-after c s (Outcome.removed z id t n) h = h
+runs-after c s (Outcome.removed z id t n k) h = h
 runs-after c s (Outcome.joined z port id k t n o b) h = h
 runs-after c s (Outcome.left z port n) h = h
-runs-after c s (Outcome.accepted z port next g n i a) h =
+runs-after c s (Outcome.accepted z port next g n i a k) h =
     let own = each-get PortGood (s .ports) port freshPort h (omega arith, omega arith) in
     each-set PortGood (s .ports) port (rightly (portOf port s)) h (omega arith, own .1)
 runs-after c s (Outcome.rejected z port g n) h =
@@ -165,10 +165,10 @@ ports-after : (c : Call) (s : State) {s′ : State} → Outcome c s s′ → len
 unfolding Steps.tick
 ports-after c s (Outcome.nothing z) = refl
 ports-after c s (Outcome.enrolled z room a n t f) = refl
-ports-after c s (Outcome.removed z id t n) = refl
+ports-after c s (Outcome.removed z id t n k) = refl
 ports-after c s (Outcome.joined z port id k t n o b) = refl
 ports-after c s (Outcome.left z port n) = refl
-ports-after c s (Outcome.accepted z port next g n i a) = length-set (s .ports) port (rightly (portOf port s))
+ports-after c s (Outcome.accepted z port next g n i a k) = length-set (s .ports) port (rightly (portOf port s))
 ports-after c s (Outcome.rejected z port g n) = length-set (s .ports) port (wrongly (portOf port s))
 ports-after c s (Outcome.ticked z) = length-map (s .ports) cooled
 

@@ -23,3 +23,4 @@ pub mod Full
 pub mod WithoutAccounts
 pub mod Given
 pub mod LongestWait
+pub mod Renewing

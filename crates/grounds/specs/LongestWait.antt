@@ -12,6 +12,8 @@ use Rattle.refusal.specs.declared.Checked.{Checked}
 use Rattle.text.specs.Tests.{every, every-at}
 use Rattle.digests.specs.Lists.{upTo, length-upTo, getD-upTo}
 use Rattle.password.specs.PhraseAndSeed.{plain}
+use Rattle.password.specs.declared.algorithm.Algorithm.{Algorithm}
+use Rattle.password.specs.Algorithm.{algorithmNumber}
 use Rattle.line.specs.Line.{some, joined, others, turnWithout, without, ticked}
 use Rattle.accounts.specs.Rooms.{placeOf}
 use Rattle.table.specs.Table.{fresh, hasTurn}
@@ -19,21 +21,25 @@ use Rattle.table.specs.Steps.{enrolChecked, enrol, joinChecked, join, tick}
 use Rattle.reached.specs.Calls.{Call, run}
 use Rattle.reached.specs.InTurn.{tickOf, ticks, TurnBegins}
 
--- An account, and three ports in line for it.
-abbrev pub threeWait : List Call
-threeWait = Call.Enrol 1 1 2 (97 ∷ []) (0 ∷ 1 ∷ 2 ∷ 3 ∷ 4 ∷ 5 ∷ 6 ∷ 7 ∷ []) ∷ Call.Join 0 1 ∷ Call.Join 1 1 ∷ Call.Join 2 1 ∷ []
+-- An account, of either algorithm, and three ports in line for it.
+abbrev pub threeWait : Algorithm → List Call
+threeWait algorithm =
+    Call.Enrol 1 (algorithmNumber algorithm) 2 (97 ∷ []) (0 ∷ 1 ∷ 2 ∷ 3 ∷ 4 ∷ 5 ∷ 6 ∷ 7 ∷ []) ∷ Call.Join 0 1 ∷ Call.Join 1 1 ∷ Call.Join 2 1 ∷ []
 
 -- So many ticks after the fourth has joined, it has the turn.
-unfoldable pub hasTurnAfter : ℕ → Bool
-hasTurnAfter n = hasTurn 3 (run (replicate n Call.Tick) (join 3 1 (run threeWait fresh) .state))
+unfoldable pub hasTurnAfter : Algorithm → ℕ → Bool
+hasTurnAfter algorithm n = hasTurn 3 (run (replicate n Call.Tick) (join 3 1 (run (threeWait algorithm) fresh) .state))
 
-pub fourth-joins : join 3 1 (run threeWait fresh) .answer ≡ Checked.Good
+pub fourth-joins : (algorithm : Algorithm) → join 3 1 (run (threeWait algorithm) fresh) .answer ≡ Checked.Good
 unfolding run enrol enrolChecked join joinChecked joined some placeOf plain every
-fourth-joins = refl
+fourth-joins Algorithm.Md5 = refl
+fourth-joins Algorithm.Sha1 = refl
 
-pub waits-180-ticks : (every (λ n. not (hasTurnAfter n)) (upTo 180 (λ n. n)) ≡ true) × (hasTurnAfter 180 ≡ true)
+pub waits-180-ticks : (algorithm : Algorithm)
+    → (every (λ n. not (hasTurnAfter algorithm n)) (upTo 180 (λ n. n)) ≡ true) × (hasTurnAfter algorithm 180 ≡ true)
 unfolding hasTurnAfter every upTo run enrol enrolChecked join joinChecked joined some placeOf plain tick ticked others turnWithout without
-waits-180-ticks = (refl, refl)
+waits-180-ticks Algorithm.Md5 = (refl, refl)
+waits-180-ticks Algorithm.Sha1 = (refl, refl)
 
 -- ---- in the words of the demand
 
@@ -50,17 +56,17 @@ front-ticks (suc n) (c ∷ early) late e =
     ap (λ (d : Call). tickOf d + ticks early) first ∙ add-comm 1 (ticks early) ∙ add-one (ticks early) in
     rw more (rw first (ap (λ (l : List Call). Call.Tick ∷ l) tail))
 
-too-soon : (n : ℕ) → n ≤ 179 → hasTurnAfter n ≡ true → ⊥
-too-soon n h e =
-    let each = every-at (λ n. not (hasTurnAfter n)) (upTo 180 (λ n. n)) (waits-180-ticks .0) n
+too-soon : (algorithm : Algorithm) (n : ℕ) → n ≤ 179 → hasTurnAfter algorithm n ≡ true → ⊥
+too-soon algorithm n h e =
+    let each = every-at (λ n. not (hasTurnAfter algorithm n)) (upTo 180 (λ n. n)) (waits-180-ticks algorithm .0) n
     (rw (length-upTo 180 (λ n. n)) (suc-le-suc h)) in
     let none = rw (getD-upTo 180 (λ n. n) n (suc-le-suc h)) at each in
-    true≢false (sym e ∙ not-true (hasTurnAfter n) none)
+    true≢false (sym e ∙ not-true (hasTurnAfter algorithm n) none)
 
 -- So it doesn't begin by the 179th.
-pub not-sooner : TurnBegins 3 1 179 (replicate 180 Call.Tick) (join 3 1 (run threeWait fresh) .state) → ⊥
+pub not-sooner : (algorithm : Algorithm) → TurnBegins 3 1 179 (replicate 180 Call.Tick) (join 3 1 (run (threeWait algorithm) fresh) .state) → ⊥
 unfolding hasTurnAfter
-not-sooner b =
+not-sooner algorithm b =
     let same = front-ticks 180 (b .early) (b .late) (b .parted) in
-    too-soon (ticks (b .early)) (b .soon)
-    (ap (λ (l : List Call). hasTurn 3 (run l (join 3 1 (run threeWait fresh) .state))) (sym same) ∙ b .turn .front)
+    too-soon algorithm (ticks (b .early)) (b .soon)
+    (ap (λ (l : List Call). hasTurn 3 (run l (join 3 1 (run (threeWait algorithm) fresh) .state))) (sym same) ∙ b .turn .front)

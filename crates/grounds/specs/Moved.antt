@@ -35,10 +35,10 @@ pub moved : (c : Call) (s : State) {s′ : State} → Outcome c s s′ → Moved
 unfolding Steps.tick
 moved c s (Outcome.nothing z) = Moved.stood z
 moved c s (Outcome.enrolled z room a n t f) = Moved.stood z
-moved c s (Outcome.removed z id t n) = Moved.gone z (ofAccount id) (account-spared c id n)
+moved c s (Outcome.removed z id t n k) = Moved.gone z (ofAccount id) (account-spared c id n)
 moved c s (Outcome.joined z port id k t n o b) = Moved.come z port id k n b
 moved c s (Outcome.left z port n) = Moved.gone z (ofPort port) (port-spared c port n)
-moved c s (Outcome.accepted z port next g n i a) = Moved.gone z (ofPort port) (port-spared c port n)
+moved c s (Outcome.accepted z port next g n i a k) = Moved.gone z (ofPort port) (port-spared c port n)
 moved c s (Outcome.rejected z port g n) = Moved.gone z (ofPort port) (port-spared c port n)
 moved c s (Outcome.ticked z) = Moved.ticked z
 

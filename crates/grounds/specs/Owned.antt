@@ -1,6 +1,7 @@
 -- While a port has the turn for an account, only its own calls change that account, removal aside.
 use Prim.Native.Nat.{ℕ, _-_, _≤_}
 use mathlib.Core.Path.{_≡_, refl, sym, ap, _∙_, subst}
+use native.Mathlib.Decide.{ℕ-discrete}
 use mathlib.Core.Bool.{Bool, true, false, true≢false, cond}
 use mathlib.Core.List.{List, [], _∷_, _++_}
 use mathlib.Core.Logic.{_⊎_, inl, inr}
@@ -17,9 +18,9 @@ use Rattle.table.specs.Steps as Steps
 use Rattle.table.specs.Steps.{challengeFor}
 use Rattle.challenge.specs.Challenges.{challengeText}
 use Rattle.reached.specs.Calls.{Call, after, run}
-use Rattle.reached.specs.InTurn.{quiet, HasTurn}
+use Rattle.reached.specs.InTurn.{quiet, keepsAlgorithm, HasTurn}
 use Rattle.refusal.specs.Each.{Each}
-use Rattle.reached.specs.RoomsChanged.{there-parts, other-same}
+use Rattle.reached.specs.RoomsChanged.{there-parts, other-same, same-changed}
 use Rattle.reached.specs.Outcome as Outcome
 use Rattle.reached.specs.Outcome.{Outcome, outcome}
 use Rattle.grounds.specs.Standing.{none-others, none-append}
@@ -60,14 +61,41 @@ account-kept c s p i (Outcome.nothing z) h t q = refl
 account-kept c s p i (Outcome.enrolled z room a n d f) h t q =
     other-same i 0 (s .rooms) room (there-parts i (s .rooms) h .0)
     (λ e. true≢false (sym h ∙ ap (λ (j : ℕ). isThere j s) (sym e) ∙ d))
-account-kept c s p i (Outcome.removed z id d n) h t q =
+account-kept c s p i (Outcome.removed z id d n k) h t q =
     other-same i id (s .rooms) free (λ e. eqb-false id i (n p i q) (sym e)) (λ e. there-parts i (s .rooms) h .0 (sym e))
 account-kept c s p i (Outcome.joined z port id k d n o b) h t q = refl
 account-kept c s p i (Outcome.left z port n) h t q = refl
-account-kept c s p i (Outcome.accepted z port next g n e a) h t q =
+account-kept c s p i (Outcome.accepted z port next g n e a k) h t q =
     absurd (eqb-false port p (n p i q) (turn-unique port p s (g .front) t))
 account-kept c s p i (Outcome.rejected z port g n) h t q = refl
 account-kept c s p i (Outcome.ticked z) h t q = refl
+
+-- The algorithm, over a call that is no renewal and doesn't remove the account.
+algorithm-kept : (c : Call) (s : State) (i : ℕ) {s′ : State} → Outcome c s s′ → isThere i s ≡ true → keepsAlgorithm i c ≡ true
+    → accountOf i s′ .algorithm ≡ accountOf i s .algorithm
+unfolding Steps.tick
+algorithm-kept c s i (Outcome.nothing z) h q = refl
+algorithm-kept c s i (Outcome.enrolled z room a n d f) h q =
+    ap (λ (r : Room). r .algorithm)
+    (other-same i 0 (s .rooms) room (there-parts i (s .rooms) h .0) (λ e. true≢false (sym h ∙ ap (λ (j : ℕ). isThere j s) (sym e) ∙ d)))
+algorithm-kept c s i (Outcome.removed z id d n k) h q =
+    ap (λ (r : Room). r .algorithm)
+    (other-same i id (s .rooms) free (λ e. eqb-false id i (k i q) (sym e)) (λ e. there-parts i (s .rooms) h .0 (sym e)))
+algorithm-kept c s i (Outcome.joined z port id b d n o e) h q = refl
+algorithm-kept c s i (Outcome.left z port n) h q = refl
+algorithm-kept c s i (Outcome.accepted z port next g n e a k) h q = go (ℕ-discrete i (turnId s))
+  where
+    go : Dec (i ≡ turnId s) → accountOf i (Steps.accepted port next s .state) .algorithm ≡ accountOf i s .algorithm
+    go (yes same) =
+        subst (λ (j : ℕ). accountOf j (Steps.accepted port next s .state) .algorithm ≡ accountOf j s .algorithm) (sym same)
+        (ap (λ (r : Room). r .algorithm) (same-changed (turnId s) (s .rooms) next e (there-parts (turnId s) (s .rooms) (g .there) .1)) ∙ k i q)
+    go (no other) = ap (λ (r : Room). r .algorithm) (other-same i (turnId s) (s .rooms) next other (λ f. other (sym f ∙ e)))
+algorithm-kept c s i (Outcome.rejected z port g n) h q = refl
+algorithm-kept c s i (Outcome.ticked z) h q = refl
+
+pub call-keeps-algorithm : (s : State) (i : ℕ) → isThere i s ≡ true → (c : Call) → keepsAlgorithm i c ≡ true
+    → accountOf i (after c s) .algorithm ≡ accountOf i s .algorithm
+call-keeps-algorithm s i h c q = algorithm-kept c s i (outcome c s) h q
 
 pub call-keeps : (p i : ℕ) (s : State) → Made s → HasTurn p i s → (c : Call) → quiet p i c ≡ true → accountOf i (after c s) ≡ accountOf i s
 call-keeps p i s m t c q = account-kept c s p i (outcome c s) (turn-there p i s m t .0) (t .front) q

@@ -41,7 +41,7 @@ use Rattle.challenge.specs.Challenges.{
   seedAt,
   terminated,
   challengeOf,
-  challengeNumbered,
+  textByNumber,
   challengeWrittenBy,
   challengeWritten,
 }
@@ -208,7 +208,7 @@ digest-exactly digest m room =
 
 pub challenge-writer-exactly : (number : ℕ) (seed : List ℕ) (count room : ℕ)
     → Exactly (writtenNumber (challengeWritten number seed count room))
-    (algorithmRows number ++ seedRows seed ++ (13, ltb 9999 count) ∷ roomRows room (challengeNumbered number seed count))
+    (algorithmRows number ++ seedRows seed ++ (13, ltb 9999 count) ∷ roomRows room (textByNumber number seed count))
 unfolding challengeWritten challengeWrittenBy
 challenge-writer-exactly number seed count room =
     let next = behind writtenChecked Written.Refused (λ why. refl) in
@@ -216,7 +216,7 @@ challenge-writer-exactly number seed count room =
     (next (algorithmChecked (numbered number)) _ (algorithmRows number) _ (algorithm-rows number)
     (λ a. next (seedChecked seed) _ (seedRows seed) _ (seed-rows seed)
     (λ b. otherwise writtenChecked Written.Refused (λ why. refl) (ltb 9999 count) Refusal.CountHigh _ _
-    (room-rows room (challengeNumbered number seed count)))))
+    (room-rows room (textByNumber number seed count)))))
 
 -- ---- a challenge, and the card
 

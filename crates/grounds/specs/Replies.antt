@@ -4,12 +4,16 @@ use native.Mathlib.Omega.{arith}
 use mathlib.Core.Path.{_≡_, refl, sym, ap, _∙_, subst}
 use mathlib.Core.Bool.{Bool, true, false, cond}
 use mathlib.Core.List.{List}
-use borrow.Author.Tests.{eqb-true, eq-eqb, le-leb, lt-ltb}
-use lib.Dec.{eqb}
+use borrow.Author.Tests.{eqb-true, eq-eqb, le-leb, leb-true, lt-ltb}
+use lib.Dec.{eqb, leb}
+use Rattle.text.specs.Tests.{both}
 use Rattle.refusal.specs.declared.Refusal.{Refusal}
 use Rattle.refusal.specs.declared.Checked.{Checked}
 use Rattle.refusal.specs.declared.Reading.{Reading}
 use Rattle.refusal.specs.Checks.{unless}
+use Rattle.password.specs.declared.algorithm.Named.{Named}
+use Rattle.password.specs.Algorithm.{numbered}
+use Rattle.password.specs.AlgorithmLaws.{checked-known}
 use Rattle.password.specs.Password.{bytesOf, hash}
 use Rattle.reply.specs.Reply.{readingOf}
 use Rattle.line.specs.Line.{standsIn}
@@ -31,10 +35,11 @@ pub accepted-account : (p : ℕ) (next : Room) (s : State) → TurnGood p s → 
     → accountOf (turnId s) (Steps.accepted p next s .state) ≡ next
 accepted-account p next s g e = same-changed (turnId s) (s .rooms) next e (there-parts (turnId s) (s .rooms) (g .there) .1)
 
--- What was presented and accepted with the answer `count`: a password whose hash, by the account's algorithm, is the one stored. The account
--- becomes what `next` makes of it.
-pub record Taken (p count : ℕ) (next : ℕ → Room) (s state : State) : Type 0 where
+-- What was presented and accepted with the answer `count`: a text, read as a password whose hash, by the account's algorithm, is the one stored.
+-- The account becomes what `next` makes of it.
+pub record Taken (p count : ℕ) (text : Reading) (next : ℕ → Room) (s state : State) : Type 0 where
   pub taken : ℕ
+  pub said : text ≡ Reading.Password taken
   pub turn : TurnGood p s
   pub hashed : hash (accountOf (turnId s) s .algorithm) (bytesOf taken) ≡ accountOf (turnId s) s .password
   pub answered : count ≡ next taken .count
@@ -44,16 +49,18 @@ not-accepted : {A : Type 0} (why : Refusal) (n : ℕ) → Replied.Refused why �
 not-accepted why n e = let z : _≡_ {A = ℕ} 0 1 = cc in absurd (omega arith)
 
 module _ (p n : ℕ) (next : ℕ → Room) (s : State) where
-  offered-taken : TurnGood p s → (w : ℕ) → offered p w (next w) s .answer ≡ Replied.Accepted n → Taken p n next s (offered p w (next w) s .state)
+  offered-taken : TurnGood p s → (w : ℕ) → offered p w (next w) s .answer ≡ Replied.Accepted n
+      → Taken p n (Reading.Password w) next s (offered p w (next w) s .state)
   unfolding offered
   offered-taken g w e = test (eqb (hash (accountOf (turnId s) s .algorithm) (bytesOf w)) (accountOf (turnId s) s .password)) refl e
     where
       test : (t : Bool) → eqb (hash (accountOf (turnId s) s .algorithm) (bytesOf w)) (accountOf (turnId s) s .password) ≡ t
           → cond t (Steps.accepted p (next w) s) (Steps.rejected p s) .answer ≡ Replied.Accepted n
-          → Taken p n next s (cond t (Steps.accepted p (next w) s) (Steps.rejected p s) .state)
+          → Taken p n (Reading.Password w) next s (cond t (Steps.accepted p (next w) s) (Steps.rejected p s) .state)
       test true f e =
           record {
             taken = w;
+            said = refl;
             turn = g;
             hashed = eqb-true (hash (accountOf (turnId s) s .algorithm) (bytesOf w)) (accountOf (turnId s) s .password) f;
             answered = cc;
@@ -64,31 +71,31 @@ module _ (p n : ℕ) (next : ℕ → Room) (s : State) where
   -- Behind a check that finds the turn good, of what a text was read as.
   checked-taken : (k : Checked) → (k ≡ Checked.Good → TurnGood p s) → (r : Reading)
       → unless (replyRefused s) k (read s r (λ w. offered p w (next w) s)) .answer ≡ Replied.Accepted n
-      → Taken p n next s (unless (replyRefused s) k (read s r (λ w. offered p w (next w) s)) .state)
+      → Taken p n r next s (unless (replyRefused s) k (read s r (λ w. offered p w (next w) s)) .state)
   checked-taken (Checked.Refused why) g r e = not-accepted why n e
   checked-taken Checked.Good g (Reading.Refused why) e = not-accepted why n e
   checked-taken Checked.Good g (Reading.Password w) e = offered-taken (g refl) w e
 
   -- The account is then the next one.
-  taken-account : (state : State) (r : Taken p n next s state) → next (r .taken) .id ≡ accountOf (turnId s) s .id
+  taken-account : (text : Reading) (state : State) (r : Taken p n text next s state) → next (r .taken) .id ≡ accountOf (turnId s) s .id
       → accountOf (turnId s) state ≡ next (r .taken)
-  taken-account state r same =
+  taken-account text state r same =
       ap (λ (u : State). accountOf (turnId s) u) (r .left)
       ∙ accepted-account p (next (r .taken)) s (r .turn) (same ∙ turn-holder p s (r .turn))
 
 pub reply-taken : (p n : ℕ) (text : List ℕ) (s : State) → reply p text s .answer ≡ Replied.Accepted n
-    → Taken p n (lowered (accountOf (turnId s) s)) s (reply p text s .state)
+    → Taken p n (readingOf text) (lowered (accountOf (turnId s) s)) s (reply p text s .state)
 unfolding reply replyRead
 reply-taken p n text s e = checked-taken p n (lowered (accountOf (turnId s) s)) s (turnChecked p s) (turn-good p s) (readingOf text) e
 
-pub taken-steps-down : (p n : ℕ) (s state : State) → Taken p n (lowered (accountOf (turnId s) s)) s state
+pub taken-steps-down : (p n : ℕ) (text : Reading) (s state : State) → Taken p n text (lowered (accountOf (turnId s) s)) s state
     → (n ≡ accountOf (turnId s) state .count) × SteppedDown (accountOf (turnId s) s) (accountOf (turnId s) state)
-taken-steps-down p n s state r =
+taken-steps-down p n text s state r =
     let old = accountOf (turnId s) s in
     let next = lowered old (r .taken) in
     let unused = r .turn .unused in
     let down : next .count + 1 ≡ old .count = omega arith in
-    subst (λ (room : Room). (n ≡ room .count) × SteppedDown old room) (sym (taken-account p n (lowered old) s state r refl))
+    subst (λ (room : Room). (n ≡ room .count) × SteppedDown old room) (sym (taken-account p n (lowered old) s text state r refl))
     (r .answered, record { same-id = refl; same-algorithm = refl; same-seed = refl; count-lower = down; old-is-hash = sym (r .hashed) })
 
 -- ---- a renewal
@@ -98,20 +105,36 @@ module _ (p n number count : ℕ) (seed new text : List ℕ) (s : State) (e : re
   abbrev next : ℕ → Room
   next w = newRoom (accountOf (turnId s) s .id) number count seed new
 
-  taken-renewal : Taken p n next s (renew p number count seed new text s .state)
+  taken-renewal : Taken p n (readingOf text) next s (renew p number count seed new text s .state)
   unfolding renew renewRead
   taken-renewal =
       checked-taken p n next s (renewChecked p number count seed s) (λ k. turn-good p s (renew-passed p number count seed s k .turn)) (readingOf text) e
 
-  pub taken-renews : (n ≡ count) × Renewed number count seed new (accountOf (turnId s) s) (accountOf (turnId s) (renew p number count seed new text s .state))
-  taken-renews = (
-    taken-renewal .answered,
-    record {
-      becomes = taken-account p n next s (renew p number count seed new text s .state) taken-renewal refl;
-      presented = taken-renewal .taken;
-      old-is-hash = sym (taken-renewal .hashed);
-    },
-  )
+  -- Its checks found nothing wrong.
+  checks-good : renewChecked p number count seed s ≡ Checked.Good
+  unfolding renew
+  checks-good = go (renewChecked p number count seed s) e
+    where
+      go : (k : Checked) → unless (replyRefused s) k (renewRead p number count seed new text s) .answer ≡ Replied.Accepted n → k ≡ Checked.Good
+      go Checked.Good f = refl
+      go (Checked.Refused why) f = not-accepted why n f
+
+  pub taken-renews : (n ≡ count)
+      × Renewed number count seed new text (accountOf (turnId s) s) (accountOf (turnId s) (renew p number count seed new text s .state))
+  taken-renews =
+      let passed = renew-passed p number count seed s checks-good in
+      let becomes = taken-account p n next s (readingOf text) (renew p number count seed new text s .state) taken-renewal refl in
+      let from = leb-true 2 count (both (leb 2 count) (leb count 9999) (passed .within) .0) in (
+        taken-renewal .answered,
+        record {
+          becomes = becomes;
+          known = checked-known (numbered number) (passed .algorithm) ∙ ap (λ (room : Room). Named.Is (room .algorithm)) (sym becomes);
+          unused = subst (λ (room : Room). 1 < room .count) (sym becomes) (omega arith);
+          presented = taken-renewal .taken;
+          read = taken-renewal .said;
+          old-is-hash = sym (taken-renewal .hashed);
+        },
+      )
 
 -- ---- a reply that is accepted
 

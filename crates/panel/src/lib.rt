@@ -2,7 +2,7 @@
 // Each is a thin cover of a proved function, with its answer laid out as a C struct.
 ghost use Rattle.block.specs.Digest.{digestOf};
 ghost use Rattle.cards.specs.Cards.{cardOf, cardWritten};
-ghost use Rattle.challenge.specs.Challenges.{challengeOf, challengeNumbered, challengeWritten};
+ghost use Rattle.challenge.specs.Challenges.{challengeOf, textByNumber, challengeWritten};
 ghost use Rattle.digests.specs.Md5.{md5};
 ghost use Rattle.digests.specs.Sha1.{sha1};
 ghost use Rattle.hex.specs.Hex.{hexOf};
@@ -107,7 +107,7 @@ pub extern "C" fn lift_write_challenge(
     buf: &mut [u8],
 ) -> LiftWritten
     ensures { λ r. ⌜ Reported (challengeWritten algorithm (now (seed .entry)) count (length (now (buf .entry))))
-        (challengeNumbered algorithm (now (seed .entry)) count) (now (buf .entry)) (now (buf .exit)) r ⌝ }
+        (textByNumber algorithm (now (seed .entry)) count) (now (buf .entry)) (now (buf .exit)) r ⌝ }
 {
     written_row(challenge::writing::write(algorithm, seed, count, buf))
 }

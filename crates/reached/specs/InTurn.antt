@@ -1,7 +1,7 @@
 -- The words of the letter's third demand: ticks, quiet calls, a port's turn for an account.
 use Prim.Native.Nat.{ℕ, _+_, _≤_}
 use mathlib.Core.Path.{_≡_}
-use mathlib.Core.Bool.{Bool, true, not, _&&_, _||_}
+use mathlib.Core.Bool.{Bool, true, false, not, _&&_, _||_}
 use mathlib.Core.List.{List, [], _∷_, _++_}
 use lib.Dec.{eqb}
 use Rattle.table.specs.Table.{State, fresh, hasTurn, turnId}
@@ -38,6 +38,17 @@ quiet p i (Call.Challenge port room) = true
 quiet p i (Call.Reply port text) = not (eqb port p)
 quiet p i (Call.Renew port number count seed password text) = not (eqb port p)
 quiet p i Call.Tick = true
+
+-- R-1, "an account keeps its algorithm, and renewal may change it": the call is no renewal, and does not remove the account i.
+abbrev pub keepsAlgorithm : ℕ → Call → Bool
+keepsAlgorithm i (Call.Enrol id number count seed password) = true
+keepsAlgorithm i (Call.Remove id) = not (eqb id i)
+keepsAlgorithm i (Call.Join port id) = true
+keepsAlgorithm i (Call.Leave port) = true
+keepsAlgorithm i (Call.Challenge port room) = true
+keepsAlgorithm i (Call.Reply port text) = true
+keepsAlgorithm i (Call.Renew port number count seed password text) = false
+keepsAlgorithm i Call.Tick = true
 
 -- "meanwhile": each call is quiet up to the moment at which p has the turn for i.
 unfoldable pub quietMeanwhile : ℕ → ℕ → List Call → State → Bool

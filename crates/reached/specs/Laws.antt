@@ -63,12 +63,12 @@ housed-outcome call s (Outcome.enrolled z room a n t f) h =
     by id o (no e) =
         let none : is (room .id) id ≡ 0 = ap (λ (b : Bool). cond b 1 0) (ne-eqb (room .id) id e) in
         omega arith
-housed-outcome call s (Outcome.removed z id t n) h =
+housed-outcome call s (Outcome.removed z id t n k) h =
     housed-set s (placeOf id (s .rooms)) free (s .ports) _ h (there-parts id (s .rooms) t .1)
     (λ j g. let none : is 0 j ≡ 0 = ap (λ (b : Bool). cond b 1 0) (ne-eqb 0 j (λ e. g (sym e))) in omega (arith, h .once j g))
 housed-outcome call s (Outcome.joined z port id k t n o b) h = housed-rooms s _ _ h
 housed-outcome call s (Outcome.left z port n) h = housed-rooms s _ _ h
-housed-outcome call s (Outcome.accepted z port next g n i a) h =
+housed-outcome call s (Outcome.accepted z port next g n i a k) h =
     let at = there-parts (turnId s) (s .rooms) (g .there) .1 in
     let same = i ∙ sym (placed-id (turnId s) (s .rooms) at) in
     housed-set s (placeOf (turnId s) (s .rooms)) next _ _ h at (λ id g. omega (arith, h .once id g, ap (λ (j : ℕ). is j id) same))

@@ -2,7 +2,7 @@
 use Prim.Native.Nat.{ℕ, _+_, _≤_, _<_}
 use native.Mathlib.Omega.{arith}
 use mathlib.Core.Path.{_≡_, refl}
-use mathlib.Core.Bool.{Bool, true, false, cond, _&&_, _||_}
+use mathlib.Core.Bool.{Bool, true, false, false≢true, cond, _&&_, _||_}
 use mathlib.Core.List.{List, [], _∷_, map}
 use borrow.Author.Tests.{eqb-true, eqb-false, ltb-true, leb-true, le-leb, not-true}
 use lib.Dec.{eqb, leb}
@@ -27,7 +27,7 @@ use Rattle.table.specs.TableChecks.{accountThere}
 use Rattle.table.specs.Steps as Steps
 use Rattle.table.specs.Steps.{After, enrolChecked, joinChecked, leaveChecked, turnChecked, renewChecked, offered, read}
 use Rattle.reached.specs.Calls.{Call, after}
-use Rattle.reached.specs.InTurn.{tickOf, quiet}
+use Rattle.reached.specs.InTurn.{tickOf, quiet, keepsAlgorithm}
 use Rattle.reached.specs.Made.{isKept, AccountGood}
 use Rattle.refusal.specs.Laws.{must-good}
 use Rattle.table.specs.StepLaws.{enrol-passed, join-passed, turn-passed, renew-passed}
@@ -52,13 +52,14 @@ pub data Outcome (c : Call) (s : State) : State → Type 0 where
   nothing : tickOf c ≡ 0 → Outcome c s s
   enrolled : tickOf c ≡ 0 → (room : Room) → AccountGood room → (room .id ≡ 0 → ⊥) → isThere (room .id) s ≡ false
       → holds 0 (s .rooms) ≡ true → Outcome c s (withRoom (placeOf 0 (s .rooms)) room s)
-  removed : tickOf c ≡ 0 → (id : ℕ) → isThere id s ≡ true → NotFor c id
+  removed : tickOf c ≡ 0 → (id : ℕ) → isThere id s ≡ true → NotFor c id → ((i : ℕ) → keepsAlgorithm i c ≡ true → eqb id i ≡ false)
       → Outcome c s (withLine (Line.removed id (s .line)) (withRoom (placeOf id (s .rooms)) free s))
   joined : tickOf c ≡ 0 → (port id : ℕ) → port ≤ 3 → isThere id s ≡ true → standsIn port (s .line) ≡ false
       → portOf port s .shut ≡ 0 → NotBy c port → Outcome c s (withLine (Line.joined port id (s .line)) s)
   left : tickOf c ≡ 0 → (port : ℕ) → NotBy c port → Outcome c s (withLine (Line.left port (s .line)) s)
   accepted : tickOf c ≡ 0 → (port : ℕ) (next : Room) → TurnGood port s → NotBy c port → next .id ≡ turnId s
       → (AccountGood (accountOf (turnId s) s) → AccountGood next)
+      → ((i : ℕ) → keepsAlgorithm i c ≡ true → next .algorithm ≡ accountOf (turnId s) s .algorithm)
       → Outcome c s (Steps.accepted port next s .state)
   rejected : tickOf c ≡ 0 → (port : ℕ) → TurnGood port s → NotBy c port → Outcome c s (Steps.rejected port s .state)
   ticked : tickOf c ≡ 1 → Outcome c s (Steps.tick s)
@@ -120,7 +121,7 @@ remove-outcome : (id : ℕ) (s : State) → Outcome (Call.Remove id) s (Steps.re
 unfolding Steps.remove
 remove-outcome id s =
     checked-outcome Checked.Refused (Call.Remove id) s (accountThere id s) _ refl
-    (λ e. Outcome.removed refl id (must-good _ _ e) (λ p i q. not-true (eqb id i) q))
+    (λ e. Outcome.removed refl id (must-good _ _ e) (λ p i q. not-true (eqb id i) q) (λ i q. not-true (eqb id i) q))
 
 pub join-good : (port id : ℕ) (s : State) → joinChecked port id s ≡ Checked.Good
     → (port ≤ 3) × (isThere id s ≡ true) × (standsIn port (s .line) ≡ false) × (portOf port s .shut ≡ 0)
@@ -162,24 +163,26 @@ turn-holder port s g = placed-id (turnId s) (s .rooms) (there-parts (turnId s) (
 
 offered-outcome : (c : Call) (port password : ℕ) (next : Room) (s : State) → tickOf c ≡ 0 → TurnGood port s → NotBy c port
     → next .id ≡ turnId s → (AccountGood (accountOf (turnId s) s) → AccountGood next)
+    → ((i : ℕ) → keepsAlgorithm i c ≡ true → next .algorithm ≡ accountOf (turnId s) s .algorithm)
     → Outcome c s (offered port password next s .state)
 unfolding offered
-offered-outcome c port password next s z g n i a =
+offered-outcome c port password next s z g n i a k =
     go (eqb (hash (accountOf (turnId s) s .algorithm) (bytesOf password)) (accountOf (turnId s) s .password))
   where
     go : (t : Bool) → Outcome c s (cond t (Steps.accepted port next s) (Steps.rejected port s) .state)
-    go true = Outcome.accepted z port next g n i a
+    go true = Outcome.accepted z port next g n i a k
     go false = Outcome.rejected z port g n
 
 -- What is done with a text: nothing where it is refused, else the password is offered.
 read-outcome : (c : Call) (port : ℕ) (text : List ℕ) (next : ℕ → Room) (s : State) → tickOf c ≡ 0 → TurnGood port s → NotBy c port
     → ((password : ℕ) → next password .id ≡ turnId s)
     → ((password : ℕ) → AccountGood (accountOf (turnId s) s) → AccountGood (next password))
+    → ((password i : ℕ) → keepsAlgorithm i c ≡ true → next password .algorithm ≡ accountOf (turnId s) s .algorithm)
     → Outcome c s (read s (readingOf text) (λ password. offered port password (next password) s) .state)
-read-outcome c port text next s z g n i a = go (readingOf text)
+read-outcome c port text next s z g n i a k = go (readingOf text)
   where
     go : (r : Reading) → Outcome c s (read s r (λ password. offered port password (next password) s) .state)
-    go (Reading.Password password) = offered-outcome c port password (next password) s z g n (i password) (a password)
+    go (Reading.Password password) = offered-outcome c port password (next password) s z g n (i password) (a password) (k password)
     go (Reading.Refused why) = Outcome.nothing z
 
 reply-outcome : (port : ℕ) (text : List ℕ) (s : State) → Outcome (Call.Reply port text) s (Steps.reply port text s .state)
@@ -189,7 +192,7 @@ reply-outcome port text s =
     (λ e.
     let g = turn-good port s e in
     read-outcome (Call.Reply port text) port text (lowered (accountOf (turnId s) s)) s refl g
-    (λ p i q. not-true (eqb port p) q) (λ password. turn-holder port s g) (λ password. lower g password))
+    (λ p i q. not-true (eqb port p) q) (λ password. turn-holder port s g) (λ password. lower g password) (λ password i e. refl))
   where
     lower : TurnGood port s → (password : ℕ) → AccountGood (accountOf (turnId s) s) → AccountGood (lowered (accountOf (turnId s) s) password)
     lower g password a =
@@ -213,7 +216,7 @@ renew-outcome port number count seed new text s =
     let id = accountOf (turnId s) s .id in
     read-outcome (Call.Renew port number count seed new text) port text (λ password. newRoom id number count seed new) s refl g
     (λ p i q. not-true (eqb port p) q) (λ password. turn-holder port s g)
-    (λ password a. new-good id number count seed new (passed .within) (passed .good)))
+    (λ password a. new-good id number count seed new (passed .within) (passed .good)) (λ password i e. absurd (false≢true e)))
 
 -- Every call, on every table.
 pub outcome : (c : Call) (s : State) → Outcome c s (after c s)

@@ -1,0 +1,51 @@
+-- A renewal that changes the algorithm, computed from the written steps.
+use mathlib.Core.Path.{_≡_, refl}
+use mathlib.Core.List.{List, [], _∷_}
+use Rattle.text.specs.Tests.{every, same}
+use Rattle.text.specs.Scan.{parted, unspaced}
+use Rattle.text.specs.Digits as Digits
+use Rattle.text.specs.Digits.{digitsOf}
+use Rattle.text.specs.Quoted.{codes}
+use Rattle.digests.specs.Lists.{upTo}
+use Rattle.digests.specs.Padding.{paddedByte, paddedWord, blockAt, absorbed}
+use Rattle.digests.specs.Md5.{md5, registers}
+use Rattle.digests.specs.Rounds.{compressed, rounds, performed, operation, round1, round2, round3, round4}
+use Rattle.digests.specs.Sha1 as Sha1
+use Rattle.password.specs.declared.algorithm.Algorithm.{Algorithm}
+use Rattle.password.specs.PhraseAndSeed.{plain}
+use Rattle.password.specs.Password.{fold, foldWords, numberAfter, bytesOf, hash}
+use Rattle.hex.specs.Hex.{hexOf, sixteenDigits, hexReading}
+use Rattle.reply.specs.Reply.{isWord, sixWords, readingOf}
+use Rattle.line.specs.Line.{some, joined, others, turnWithout, without}
+use Rattle.accounts.specs.Rooms.{placeOf}
+use Rattle.table.specs.Table.{fresh, accountOf}
+use Rattle.table.specs.Steps.{
+  enrolChecked,
+  enrol,
+  joinChecked,
+  join,
+  turnChecked,
+  offered,
+  replyRead,
+  reply,
+  renewChecked,
+  renewRead,
+  renew,
+}
+use Rattle.reached.specs.Calls.{Call, Answer, run, answers}
+
+-- Account 1, by MD5, whose next password is 5, is renewed to SHA-1 with the count 3, and then answered with 6.
+abbrev pub changing : List Call
+changing =
+    Call.Enrol 1 1 2 (codes "lift1") (bytesOf (hash Algorithm.Md5 (bytesOf 5))) ∷ Call.Join 0 1
+    ∷ Call.Renew 0 2 3 (codes "lift2") (bytesOf (hash Algorithm.Sha1 (bytesOf 6))) (hexOf 5) ∷ Call.Join 0 1 ∷ Call.Reply 0 (hexOf 6) ∷ []
+
+-- Each accepted answer is the new count, and the account has SHA-1 and the last password then.
+pub algorithm-changes : (answers changing fresh ≡ Answer.Done ∷ Answer.Done ∷ Answer.Count 3 ∷ Answer.Done ∷ Answer.Count 2 ∷ [])
+    × (accountOf 1 (run changing fresh) ≡ record { id = 1; algorithm = Algorithm.Sha1; seed = codes "lift2"; count = 2; password = 6 })
+unfolding answers run enrolChecked enrol joinChecked join turnChecked offered replyRead reply renewChecked renewRead renew
+    placeOf some joined others turnWithout without plain every same codes readingOf sixWords isWord sixteenDigits hexReading
+    parted unspaced digitsOf Digits.numberAfter hash fold foldWords numberAfter md5 registers absorbed compressed rounds
+    performed operation round1 round2 round3 round4 Sha1.hashValue Sha1.compressed Sha1.schedule Sha1.longer Sha1.steps Sha1.step
+    Sha1.f Sha1.K blockAt paddedWord paddedByte upTo
+algorithm-changes = (refl, refl)
