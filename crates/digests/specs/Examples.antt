@@ -24,6 +24,6 @@ digests =
 
 pub examples : map md5 texts ++ map Sha1.sha1 texts ≡ digests
 unfolding texts digests md5 registers absorbed compressed rounds performed operation round1 round2 round3 round4
-    Sha1.sha1 Sha1.hashValue Sha1.compressed Sha1.schedule Sha1.longer Sha1.steps Sha1.step Sha1.f Sha1.K
+    Sha1.sha1 Sha1.hashValue Sha1.compressed Sha1.schedule Sha1.longer Sha1.steps Sha1.step Sha1.stepWith Sha1.f Sha1.K
     blockAt paddedWord paddedByte upTo
 examples = refl

@@ -7,8 +7,7 @@ use lib.Dec.{eqb}
 use lib.ListN.{getD}
 use Rattle.digests.specs.declared.FiveWords.{FiveWords}
 use Rattle.digests.specs.Lists.{upTo}
-use Rattle.digests.specs.Words.{add, rotated}
-use Rattle.digests.specs.Sha1.{Ch, Parity, Maj, K, wordAt, schedule}
+use Rattle.digests.specs.Sha1.{Ch, Parity, Maj, K, wordAt, schedule, stepWith}
 use Rattle.sha1.specs.declared.steps.Four.{Four}
 
 -- Word t of the schedule that begins with the sixteen words M, and the sixteen words after those.
@@ -24,17 +23,6 @@ functionOf quarter = cond (eqb quarter 0) Ch (cond (eqb quarter 1) Parity (cond 
 
 abbrev pub constantOf : ℕ → ℕ
 constantOf quarter = cond (eqb quarter 0) (K 0) (cond (eqb quarter 1) (K 20) (cond (eqb quarter 2) (K 40) (K 60)))
-
--- A step with the function's value x and the constant k.
-unfoldable pub stepWith : ℕ → ℕ → ℕ → FiveWords → FiveWords
-stepWith x k w v =
-    record {
-      a = add (add (add (add (rotated (v .a) 5) x) (v .e)) k) w;
-      b = v .a;
-      c = rotated (v .b) 30;
-      d = v .c;
-      e = v .d;
-    }
 
 -- One step of a quarter, four of them, and sixteen steps from step t on.
 unfoldable pub stepOf : ℕ → ℕ → FiveWords → FiveWords
