@@ -8,21 +8,12 @@ use crate::steps::functions::maj;
 use crate::steps::functions::parity;
 use block::arithmetic::add;
 use block::arithmetic::rotated;
+use block::by_four::Four;
+use block::by_four::part;
 use digests::FiveWords;
 
 // The functions on words.
 mod functions;
-
-// Four words of the schedule.
-struct Four(u32, u32, u32, u32);
-
-// The four of the words that start at the i-th.
-fn part(w: [u32; 16], i: usize) -> Four
-    requires { ⌜ i ≤ 12 ⌝ }
-    ensures { λ r. ⌜ r ≡ code.fourAt w i ⌝ }
-{
-    Four(w[i], w[i + 1], w[i + 2], w[i + 3])
-}
 
 // One step: f is the function at b, c, d, and k the constant.
 fn step(v: FiveWords, f: u32, k: u32, w: u32) -> FiveWords

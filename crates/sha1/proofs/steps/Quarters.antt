@@ -5,8 +5,9 @@ use mathlib.Core.List.{List}
 use borrow.Author.Tests.{ne-eqb}
 use Rattle.digests.specs.declared.FiveWords.{FiveWords}
 use Rattle.digests.specs.Sha1.{stepWith}
-use Rattle.sha1.specs.declared.steps.Four.{Four}
-use Rattle.sha1.specs.Inside.{functionOf, constantOf, stepOf, fourOf, fourAt, sixteenOf}
+use Rattle.block.specs.declared.by_four.Four.{Four}
+use Rattle.block.specs.ByFour.{fourAt}
+use Rattle.sha1.specs.Inside.{functionOf, constantOf, stepOf, fourOf, sixteenOf}
 
 -- A step with the value x of quarter q's function and its constant is one of quarter n, where n is q.
 pub of-quarter : (q n w x : ℕ) (v p : FiveWords) → stepOf n w v ≡ stepOf q w v
