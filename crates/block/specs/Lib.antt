@@ -1,4 +1,6 @@
--- What a digest function answers, and laws for the crates above `block`; the digests themselves are defined in `digests`.
+-- Words by four, what a digest function answers, and laws for the crates above `block`; the digests themselves are defined
+-- in `digests`.
+pub mod ByFour
 pub mod Digest
 pub mod Laws
 pub mod WordLaws

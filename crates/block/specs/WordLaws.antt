@@ -1,7 +1,7 @@
 -- A word and its four bytes, in either byte order.
 use Prim.Native.Nat.{ℕ, _+_, _*_, _/_, _%_, _^_, _<_}
 use mathlib.Core.Path.{_≡_, refl, sym, ap, _∙_}
-use mathlib.Core.List.{List, [], _∷_}
+use mathlib.Core.List.{List, [], _∷_, _++_}
 use native.Mathlib.Nat.{div-add-mod'}
 use native.Mathlib.Omega.{arith}
 use lib.ListN.{length, getD}
@@ -12,6 +12,10 @@ use Rattle.digests.specs.Words.{word, bytes4}
 pub length-bytes4 : (order : Order) (x : ℕ) → length (bytes4 order x) ≡ 4
 length-bytes4 Order.Little x = refl
 length-bytes4 Order.Big x = refl
+
+-- The bytes of two words.
+abbrev pub bytes8 : Order → ℕ → ℕ → List ℕ
+bytes8 order x y = bytes4 order x ++ bytes4 order y
 
 -- A number from its four digits in base 256, one at a time.
 joined : (x r₀ q₁ r₁ q₂ r₂ q₃ : ℕ) → q₁ * 256 + r₀ ≡ x → q₂ * 256 + r₁ ≡ q₁ → q₃ * 256 + r₂ ≡ q₂

@@ -9,6 +9,8 @@ use digests::Order;
 
 // The sum and the rotation of words.
 pub mod arithmetic;
+// Sixteen words, four at a time.
+pub mod by_four;
 // The words of a digest as bytes at the front of a buffer.
 pub mod put;
 

@@ -58,6 +58,7 @@ pub rows : map answerOf (
 unfolding typed answerOf printedCard linesAsked cardChecked cardOf cardText lineOf indexOf indexAfter runOf digitsOf numberAfter
     codes every plain isCount opening algorithmName same tokenAt nextAt countAt seedAt challengeOf password hash fold foldWords bytesAfter md5
     registers absorbed compressed rounds performed operation round1 round2 round3 round4
-    Sha1.hashValue Sha1.compressed Sha1.schedule Sha1.longer Sha1.steps Sha1.step Sha1.f Sha1.K blockAt paddedWord paddedByte upTo
+    Sha1.hashValue Sha1.compressed Sha1.schedule Sha1.longer Sha1.steps Sha1.step Sha1.stepWith Sha1.f Sha1.K
+    blockAt paddedWord paddedByte upTo
     spacedFrom placesOf cut whole pairs pairSum wordsIn lines words flatten
 rows = refl

@@ -6,6 +6,7 @@ use Rattle.block.proofs.joined.Reads as joined
 use Rattle.block.proofs.block.Reads as block
 use Rattle.block.proofs.arithmetic.add.Reads as add
 use Rattle.block.proofs.arithmetic.rotated.Reads as rotated
+use Rattle.block.proofs.by_four.part.Reads as part
 use Rattle.block.proofs.put.word.Reads as put-word
 use Rattle.block.proofs.put.two_words.Reads as put-two-words
 use Rattle.md5.proofs.compress.compress_eight.Reads as compress-eight
@@ -40,6 +41,9 @@ add-determined k a y z e f p q = p ∙ sym q
 
 pub rotated-determined : Answers rotated.Learnt
 rotated-determined k a y z e f p q = p ∙ sym q
+
+pub part-determined : Answers part.Learnt
+part-determined k a y z e f p q = p ∙ sym q
 
 pub put-word-determined : AnswersAndLent put-word.Learnt (λ k e. now (e .1 .0))
 put-word-determined k a y z e f p q = both p q

@@ -1,5 +1,5 @@
--- Worked examples as one theorem: the digests of "" and "abc", MD5's from RFC 1321, A.5, and SHA-1's from the examples
--- that go with FIPS 180-4.
+-- Worked examples as one theorem: the digests of "" and "abc". MD5's are from RFC 1321, A.5. Of SHA-1's, that of "abc"
+-- is NIST's example for FIPS 180-4, and that of the empty text one of NIST's test vectors.
 use Prim.Native.Nat.{ℕ}
 use mathlib.Core.Path.{_≡_, refl}
 use mathlib.Core.List.{List, [], _∷_, _++_, map}
@@ -24,6 +24,6 @@ digests =
 
 pub examples : map md5 texts ++ map Sha1.sha1 texts ≡ digests
 unfolding texts digests md5 registers absorbed compressed rounds performed operation round1 round2 round3 round4
-    Sha1.sha1 Sha1.hashValue Sha1.compressed Sha1.schedule Sha1.longer Sha1.steps Sha1.step Sha1.f Sha1.K
+    Sha1.sha1 Sha1.hashValue Sha1.compressed Sha1.schedule Sha1.longer Sha1.steps Sha1.step Sha1.stepWith Sha1.f Sha1.K
     blockAt paddedWord paddedByte upTo
 examples = refl

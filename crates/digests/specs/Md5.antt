@@ -16,8 +16,10 @@ initial = record { a = 0x67452301; b = 0xefcdab89; c = 0x98badcfe; d = 0x1032547
 unfoldable pub registers : List ℕ → State
 registers m = absorbed Order.Little compressed initial m (blocks (length m))
 
--- 3.5: the digest is A, B, C, D, each low-order byte first
+-- 3.5: the output is A, B, C, D, each low-order byte first; and the digest of a message
+abbrev pub output : State → List ℕ
+output q =
+    bytes4 Order.Little (q .a) ++ bytes4 Order.Little (q .b) ++ bytes4 Order.Little (q .c) ++ bytes4 Order.Little (q .d)
+
 unfoldable pub md5 : List ℕ → List ℕ
-md5 m =
-    bytes4 Order.Little (registers m .a) ++ bytes4 Order.Little (registers m .b) ++ bytes4 Order.Little (registers m .c)
-    ++ bytes4 Order.Little (registers m .d)
+md5 m = output (registers m)

@@ -46,16 +46,20 @@ unfoldable pub schedule : List ℕ → ℕ → List ℕ
 schedule M zero = []
 schedule M (suc t) = longer M t (schedule M t)
 
--- 6.1.2, 3: step t on the working variables v, with w for W_t; and the first n steps.
-unfoldable pub step : ℕ → ℕ → FiveWords → FiveWords
-step t w v =
+-- 6.1.2, 3: a step on the working variables v, with x for f_t(b, c, d), k for K_t and w for W_t; step t; and the first
+-- n steps.
+unfoldable pub stepWith : ℕ → ℕ → ℕ → FiveWords → FiveWords
+stepWith x k w v =
     record {
-      a = add (add (add (add (rotated (v .a) 5) (f t (v .b) (v .c) (v .d))) (v .e)) (K t)) w;
+      a = add (add (add (add (rotated (v .a) 5) x) (v .e)) k) w;
       b = v .a;
       c = rotated (v .b) 30;
       d = v .c;
       e = v .d;
     }
+
+unfoldable pub step : ℕ → ℕ → FiveWords → FiveWords
+step t w v = stepWith (f t (v .b) (v .c) (v .d)) (K t) w v
 
 unfoldable pub steps : List ℕ → ℕ → FiveWords → FiveWords
 steps W zero v = v

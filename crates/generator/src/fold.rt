@@ -3,14 +3,14 @@ ghost use mathlib.Core.Path.{_≡_};
 ghost use mathlib.Core.List.{_++_};
 ghost use Rattle.digests.specs.declared.Order.{Order};
 ghost use Rattle.digests.specs.Words.{bytes4};
+ghost use Rattle.digests.specs.Md5.{output};
 ghost use Rattle.password.specs.Password as spec;
-ghost use Rattle.generator.specs.Inside.{high4, md5Bytes};
 use digests::FiveWords;
 use digests::State;
 
 // A word's four bytes, low-order byte first, as a number with the first most significant.
 fn read_high(x: u32) -> u64
-    ensures { λ r. ⌜ r ≡ high4 x ⌝ }
+    ensures { λ r. ⌜ r ≡ spec.numberOf (bytes4 Order.Little x) ⌝ }
 {
     let y = x as u64;
     (y % 256) * 16777216 + (y / 256 % 256) * 65536 + (y / 65536 % 256) * 256 + y / 16777216 % 256
@@ -25,7 +25,7 @@ fn number_of_words(x: u32, y: u32) -> u64
 
 // MD5's digest in the registers, folded: bytes 0 to 7 with bytes 8 to 15 are A with C and B with D.
 pub fn folded_md5(q: State) -> u64
-    ensures { λ r. ⌜ r ≡ spec.numberOf (spec.fold (md5Bytes q)) ⌝ }
+    ensures { λ r. ⌜ r ≡ spec.numberOf (spec.fold (output q)) ⌝ }
 {
     number_of_words(q.a ^ q.c, q.b ^ q.d)
 }

@@ -1,13 +1,13 @@
 -- The rounds in the code's order: message word and constant of each operation are summed first. The promises of the
 -- crate's private functions cite these; SumLaws.antt ties them to the RFC's order by a law.
-use Prim.Native.Nat.{ℕ, zero, suc, _+_}
+use Prim.Native.Nat.{ℕ, zero, suc}
 use mathlib.Core.Bool.{cond}
 use mathlib.Core.List.{List, [], _∷_}
 use lib.Dec.{eqb}
 use lib.ListN.{getD}
 use Rattle.digests.specs.Lists.{upTo}
 use Rattle.digests.specs.declared.State.{State}
-use Rattle.md5.specs.declared.rounds.operations.Four.{Four}
+use Rattle.block.specs.declared.by_four.Four.{Four}
 use Rattle.digests.specs.Words.{add, rotated}
 use Rattle.digests.specs.Rounds.{Round, round1, round2, round3, round4, increased}
 
@@ -30,10 +30,7 @@ unfoldable pub operationsSummed : Round → List ℕ → ℕ → State → State
 operationsSummed r y zero q = q
 operationsSummed r y (suc n) q = operationOf r (getD y n 0) (getD (r .shifts) n 0) (operationsSummed r y n q)
 
--- Four of the numbers y, from the k-th on, and as a list.
-abbrev pub fourAt : List ℕ → ℕ → Four
-fourAt y k = record { 0 = getD y k 0; 1 = getD y (k + 1) 0; 2 = getD y (k + 2) 0; 3 = getD y (k + 3) 0 }
-
+-- Four numbers as a list.
 abbrev pub listed : Four → List ℕ
 listed p = p .0 ∷ p .1 ∷ p .2 ∷ p .3 ∷ []
 

@@ -24,7 +24,12 @@ number-bytes p h =
     let s₆ = ap (λ n. after n 8) s₅ ∙ next-byte p 8 in
     ap (λ n. n * 256 + p % 256) s₆ ∙ div-add-mod' p 256
 
--- Eight bytes as a number: the first four, then the last four.
+-- Four bytes as a number, and eight: the first four, then the last four.
+pub number-four : (b₀ b₁ b₂ b₃ : ℕ)
+    → numberOf (b₀ ∷ b₁ ∷ b₂ ∷ b₃ ∷ []) ≡ b₀ * 16777216 + b₁ * 65536 + b₂ * 256 + b₃
+unfolding numberAfter
+number-four b₀ b₁ b₂ b₃ = omega arith
+
 pub number-eight : (b₀ b₁ b₂ b₃ b₄ b₅ b₆ b₇ : ℕ)
     → numberOf (b₀ ∷ b₁ ∷ b₂ ∷ b₃ ∷ b₄ ∷ b₅ ∷ b₆ ∷ b₇ ∷ [])
     ≡ (b₀ * 16777216 + b₁ * 65536 + b₂ * 256 + b₃) * 4294967296

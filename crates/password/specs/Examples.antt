@@ -22,6 +22,6 @@ pub examples : map (row 1) (0 ∷ 1 ∷ []) ++ map (row 2) (0 ∷ 1 ∷ [])
     ∷ Reading.Password 0xbb9e6ae1979d8ff4 ∷ Reading.Password 0x63d936639734385b ∷ []
 unfolding row codes generated generatedBy plain every password hash fold foldWords numberAfter md5 registers
     absorbed compressed rounds performed operation round1 round2 round3 round4
-    Sha1.hashValue Sha1.compressed Sha1.schedule Sha1.longer Sha1.steps Sha1.step Sha1.f Sha1.K
+    Sha1.hashValue Sha1.compressed Sha1.schedule Sha1.longer Sha1.steps Sha1.step Sha1.stepWith Sha1.f Sha1.K
     blockAt paddedWord paddedByte upTo
 examples = refl

@@ -1,4 +1,4 @@
--- The folds of both digests are two words, each low-order byte first.
+-- The fold of MD5's digest is two words, each low-order byte first.
 use Prim.Native.Nat.{ℕ, _/_, _%_, _^_}
 use mathlib.Core.Path.{_≡_, sym, ap, _∙_}
 use mathlib.Core.List.{[], _∷_, _++_}

@@ -1,6 +1,6 @@
 -- Laws of the generator, for the crates above.
 use Prim.Native.Nat.{ℕ, _≤_, _<_}
-use mathlib.Core.Path.{_≡_, refl}
+use mathlib.Core.Path.{_≡_, sym}
 use mathlib.Core.List.{List}
 use borrow.Author.Tests.{lt-ltb, le-ltb}
 use Rattle.refusal.specs.declared.Refusal.{Refusal}
@@ -8,6 +8,7 @@ use Rattle.refusal.specs.declared.Checked.{Checked}
 use Rattle.refusal.specs.declared.Reading.{Reading}
 use Rattle.password.specs.PhraseAndSeed.{phraseChecked, seedChecked}
 use Rattle.password.specs.Algorithm.{algorithmNumber}
+use Rattle.password.specs.AlgorithmLaws.{number-numbered, known-done}
 use Rattle.password.specs.declared.algorithm.Algorithm.{Algorithm}
 use Rattle.password.specs.Password.{password, generatedBy, generated}
 
@@ -38,5 +39,5 @@ module _ (algorithm : Algorithm) (phrase seed : List ℕ) (count : ℕ) where
 pub generated-numbered : (algorithm : Algorithm) (phrase seed : List ℕ) (count : ℕ)
     → generated (algorithmNumber algorithm) phrase seed count ≡ generatedBy algorithm phrase seed count
 unfolding generated
-generated-numbered Algorithm.Md5 phrase seed count = refl
-generated-numbered Algorithm.Sha1 phrase seed count = refl
+generated-numbered algorithm phrase seed count =
+    sym (known-done Reading.Refused (λ (a : Algorithm). generatedBy a phrase seed count) _ algorithm (number-numbered algorithm))

@@ -9,8 +9,8 @@ use native.Mathlib.Omega.{arith}
 use lib.Dec.{ltb}
 use lib.ListN.{getD}
 use Rattle.digests.specs.declared.FiveWords.{FiveWords}
-use Rattle.digests.specs.Sha1.{f, K, schedule, step, steps, summed, compressed}
-use Rattle.sha1.specs.Inside.{scheduled, following, stepWith, stepOf, fourOf, sixteenOf}
+use Rattle.digests.specs.Sha1.{f, K, schedule, stepWith, step, steps, summed, compressed}
+use Rattle.sha1.specs.Inside.{scheduled, following, stepOf, fourOf, sixteenOf}
 use Rattle.sha1.proofs.Scheduled.{getD-schedule, scheduled-first, scheduled-following}
 
 -- A step is one of the quarter that it lies in.

@@ -4,12 +4,11 @@ use Prim.Native.Nat.{ℕ, _+_, _/_}
 use mathlib.Core.Bool.{cond}
 use mathlib.Core.List.{List}
 use lib.Dec.{eqb}
-use lib.ListN.{getD}
 use Rattle.digests.specs.declared.FiveWords.{FiveWords}
 use Rattle.digests.specs.Lists.{upTo}
-use Rattle.digests.specs.Words.{add, rotated}
-use Rattle.digests.specs.Sha1.{Ch, Parity, Maj, K, wordAt, schedule}
-use Rattle.sha1.specs.declared.steps.Four.{Four}
+use Rattle.digests.specs.Sha1.{Ch, Parity, Maj, K, wordAt, schedule, stepWith}
+use Rattle.block.specs.declared.by_four.Four.{Four}
+use Rattle.block.specs.ByFour.{fourAt}
 
 -- Word t of the schedule that begins with the sixteen words M, and the sixteen words after those.
 unfoldable pub scheduled : List ℕ → ℕ → ℕ
@@ -25,26 +24,12 @@ functionOf quarter = cond (eqb quarter 0) Ch (cond (eqb quarter 1) Parity (cond 
 abbrev pub constantOf : ℕ → ℕ
 constantOf quarter = cond (eqb quarter 0) (K 0) (cond (eqb quarter 1) (K 20) (cond (eqb quarter 2) (K 40) (K 60)))
 
--- A step with the function's value x and the constant k.
-unfoldable pub stepWith : ℕ → ℕ → ℕ → FiveWords → FiveWords
-stepWith x k w v =
-    record {
-      a = add (add (add (add (rotated (v .a) 5) x) (v .e)) k) w;
-      b = v .a;
-      c = rotated (v .b) 30;
-      d = v .c;
-      e = v .d;
-    }
-
 -- One step of a quarter, four of them, and sixteen steps from step t on.
 unfoldable pub stepOf : ℕ → ℕ → FiveWords → FiveWords
 stepOf quarter w v = stepWith (functionOf quarter (v .b) (v .c) (v .d)) (constantOf quarter) w v
 
 unfoldable pub fourOf : ℕ → Four → FiveWords → FiveWords
 fourOf quarter w v = stepOf quarter (w .3) (stepOf quarter (w .2) (stepOf quarter (w .1) (stepOf quarter (w .0) v)))
-
-abbrev pub fourAt : List ℕ → ℕ → Four
-fourAt w i = record { 0 = getD w i 0; 1 = getD w (i + 1) 0; 2 = getD w (i + 2) 0; 3 = getD w (i + 3) 0 }
 
 unfoldable pub sixteenOf : ℕ → List ℕ → FiveWords → FiveWords
 sixteenOf t w v =

@@ -1,31 +1,23 @@
 // FIPS 180-4, 6.1.2, 3: the steps on the working variables.
 ghost use mathlib.Core.Path.{_≡_};
 ghost use Prim.Native.Nat.{_≤_};
+ghost use Rattle.digests.specs.Sha1 as spec;
 ghost use Rattle.sha1.specs.Inside as code;
 use crate::steps::functions::ch;
 use crate::steps::functions::maj;
 use crate::steps::functions::parity;
 use block::arithmetic::add;
 use block::arithmetic::rotated;
+use block::by_four::Four;
+use block::by_four::part;
 use digests::FiveWords;
 
 // The functions on words.
 mod functions;
 
-// Four words of the schedule.
-struct Four(u32, u32, u32, u32);
-
-// The four of the words that start at the i-th.
-fn part(w: [u32; 16], i: usize) -> Four
-    requires { ⌜ i ≤ 12 ⌝ }
-    ensures { λ r. ⌜ r ≡ code.fourAt w i ⌝ }
-{
-    Four(w[i], w[i + 1], w[i + 2], w[i + 3])
-}
-
 // One step: f is the function at b, c, d, and k the constant.
 fn step(v: FiveWords, f: u32, k: u32, w: u32) -> FiveWords
-    ensures { λ r. ⌜ r ≡ code.stepWith f k w v ⌝ }
+    ensures { λ r. ⌜ r ≡ spec.stepWith f k w v ⌝ }
 {
     FiveWords {
         a: add(add(add(add(rotated(v.a, 5), f), v.e), k), w),

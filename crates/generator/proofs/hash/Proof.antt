@@ -3,10 +3,9 @@ use mathlib.Core.Path.{sym, ap, _∙_}
 use borrow.Author.Needs.{needs}
 use Rattle.digests.specs.declared.FiveWords.{FiveWords}
 use Rattle.digests.specs.declared.State.{State}
-use Rattle.digests.specs.Md5.{md5}
+use Rattle.digests.specs.Md5.{output, md5}
 use Rattle.password.specs.declared.algorithm.Algorithm.{Algorithm}
 use Rattle.password.specs.Password.{fold, foldWords, numberOf, hash}
-use Rattle.generator.specs.Inside.{md5Bytes}
 use Rattle.generator.proofs.hash.Statement.{statement}
 use Rattle.generator.proofs.hash.Tie as tie
 
@@ -14,7 +13,7 @@ returns : tie.Need-returns
 unfolding hash md5
 returns c =
     let told = c .before .before in
-    c .folded-md5 .ensures ∙ ap (λ (q : State). numberOf (fold (md5Bytes q))) (c .before .registers .ensures)
+    c .folded-md5 .ensures ∙ ap (λ (q : State). numberOf (fold (output q))) (c .before .registers .ensures)
     ∙ sym (ap (λ (a : Algorithm). hash a (told .before .before .before .args .m .now)) (told .enum-told .given .1))
 
 returns-2 : tie.Need-returns-2

@@ -8,12 +8,11 @@ use Rattle.text.specs.Put.{Put}
 use Rattle.text.specs.PutLaws.{then-put}
 use Rattle.digests.specs.declared.State.{State}
 use Rattle.digests.specs.declared.Order.{Order}
-use Rattle.digests.specs.Words.{bytes4}
 use Rattle.digests.specs.Md5.{registers, md5}
+use Rattle.block.specs.WordLaws.{bytes8}
 
--- The bytes of two registers.
 abbrev two : ℕ → ℕ → List ℕ
-two x y = bytes4 Order.Little x ++ bytes4 Order.Little y
+two = bytes8 Order.Little
 
 pub digest-put : (m : List ℕ) (q : State) (b b₁ ys : List ℕ) (n k : ℕ) → q ≡ registers m
     → Put (two (q .a) (q .b)) b b₁ n

@@ -8,8 +8,9 @@ use borrow.Author.Tests.{ne-eqb}
 use lib.Dec.{eqb}
 use Rattle.digests.specs.declared.State.{State}
 use Rattle.digests.specs.Rounds.{Round, round1, round2, round3, round4}
-use Rattle.md5.specs.declared.rounds.operations.Four.{Four}
-use Rattle.md5.specs.Sums.{roundOf, operationSummed, operationOf, operationsSummed, fourAt, listed}
+use Rattle.block.specs.declared.by_four.Four.{Four}
+use Rattle.block.specs.ByFour.{fourAt}
+use Rattle.md5.specs.Sums.{roundOf, operationSummed, operationOf, operationsSummed, listed}
 
 chosen : (P : Round → Type 0) (b : Bool) (x y : Round) → P x → P y → P (cond b x y)
 chosen P true x y p q = p

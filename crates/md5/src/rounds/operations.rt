@@ -1,6 +1,7 @@
 // RFC 1321, 3.4: the operations and the four rounds.
 ghost use mathlib.Core.Path.{_≡_};
-ghost use Prim.Native.Nat.{_<_, _≤_};
+ghost use Prim.Native.Nat.{_<_};
+ghost use Rattle.block.specs.ByFour.{fourAt};
 ghost use Rattle.md5.specs.Sums as code;
 use crate::rounds::functions::f;
 use crate::rounds::functions::g;
@@ -8,22 +9,13 @@ use crate::rounds::functions::h;
 use crate::rounds::functions::i;
 use block::arithmetic::add;
 use block::arithmetic::rotated;
+use block::by_four::Four;
+use block::by_four::part;
 use digests::State;
-
-// One for each operation of four: their sums, or their shifts.
-struct Four(u32, u32, u32, u32);
-
-// The four of the sums that start at the k-th.
-fn part(y: [u32; 16], k: usize) -> Four
-    requires { ⌜ k ≤ 12 ⌝ }
-    ensures { λ r. ⌜ r ≡ code.fourAt y k ⌝ }
-{
-    Four(y[k], y[k + 1], y[k + 2], y[k + 3])
-}
 
 // The shifts of a round's first four operations, and of each four after them.
 fn shifts(round: u32) -> Four
-    ensures { λ r. ⌜ r ≡ code.fourAt (code.roundOf round .shifts) 0 ⌝ }
+    ensures { λ r. ⌜ r ≡ fourAt (code.roundOf round .shifts) 0 ⌝ }
 {
     match round {
         1 => Four(7, 12, 17, 22),

@@ -10,10 +10,11 @@ use Rattle.digests.specs.declared.Order.{Order}
 use Rattle.digests.specs.declared.FiveWords.{FiveWords}
 use Rattle.digests.specs.Words.{bytes4}
 use Rattle.digests.specs.Sha1.{hashValue, sha1}
+use Rattle.block.specs.WordLaws.{bytes8}
 
 -- The bytes of two words, and of five.
 abbrev two : ℕ → ℕ → List ℕ
-two x y = bytes4 Order.Big x ++ bytes4 Order.Big y
+two = bytes8 Order.Big
 
 abbrev five : FiveWords → List ℕ
 five h = (two (h .a) (h .b) ++ two (h .c) (h .d)) ++ bytes4 Order.Big (h .e)

@@ -4,8 +4,10 @@ use mathlib.Core.Path.{_≡_, ap, ap₂, sym, _∙_}
 use mathlib.Core.List.{List}
 use borrow.Author.Tests.{ne-eqb}
 use Rattle.digests.specs.declared.FiveWords.{FiveWords}
-use Rattle.sha1.specs.declared.steps.Four.{Four}
-use Rattle.sha1.specs.Inside.{functionOf, constantOf, stepWith, stepOf, fourOf, fourAt, sixteenOf}
+use Rattle.digests.specs.Sha1.{stepWith}
+use Rattle.block.specs.declared.by_four.Four.{Four}
+use Rattle.block.specs.ByFour.{fourAt}
+use Rattle.sha1.specs.Inside.{functionOf, constantOf, stepOf, fourOf, sixteenOf}
 
 -- A step with the value x of quarter q's function and its constant is one of quarter n, where n is q.
 pub of-quarter : (q n w x : ℕ) (v p : FiveWords) → stepOf n w v ≡ stepOf q w v

@@ -3,11 +3,10 @@ use mathlib.Core.Path.{sym, ap, _∙_}
 use borrow.Author.Needs.{needs}
 use Rattle.digests.specs.declared.FiveWords.{FiveWords}
 use Rattle.digests.specs.declared.State.{State}
-use Rattle.digests.specs.Md5.{md5, registers}
+use Rattle.digests.specs.Md5.{output, md5, registers}
 use Rattle.digests.specs.Sha1.{hashValue}
 use Rattle.password.specs.declared.algorithm.Algorithm.{Algorithm}
 use Rattle.password.specs.Password.{fold, foldWords, numberOf, bytesOf, hash}
-use Rattle.generator.specs.Inside.{md5Bytes}
 use Rattle.generator.proofs.chain.step.Statement.{statement}
 use Rattle.generator.proofs.chain.step.Tie as tie
 
@@ -17,7 +16,7 @@ returns c =
     let told = c .before .before .before in
     let p = told .before .before .args .p in
     c .folded-md5 .ensures
-    ∙ ap (λ (q : State). numberOf (fold (md5Bytes q)))
+    ∙ ap (λ (q : State). numberOf (fold (output q)))
     (c .before .compress-eight .ensures ∙ ap registers (c .before .before .words-of .ensures))
     ∙ sym (ap (λ (a : Algorithm). hash a (bytesOf p)) (told .enum-told .given .1))
 

@@ -1,6 +1,7 @@
--- `read_high` meets its promise: no sum wraps, and the result is the definition's.
-use mathlib.Core.Path.{refl}
+-- `read_high` meets its promise: no sum wraps, and the sum is the number of the four bytes.
+use mathlib.Core.Path.{sym}
 use borrow.Author.Needs.{needs}
+use Rattle.password.specs.EightBytesLaws.{number-four}
 use Rattle.generator.proofs.fold.read_high.Statement.{statement}
 use Rattle.generator.proofs.fold.read_high.Tie as tie
 
@@ -14,4 +15,4 @@ read-high-spec =
     (λ c. search needs)
     (λ c. search needs)
     (λ c. search needs)
-    (λ c. refl))
+    (λ c. sym (number-four _ _ _ _)))

@@ -3,7 +3,7 @@ use Prim.Native.Nat.{ℕ}
 use mathlib.Core.Path.{_≡_, ap, _∙_}
 use borrow.Author.Needs.{needs}
 use Rattle.digests.specs.Words.{add, rotated}
-use Rattle.sha1.specs.Inside.{stepWith}
+use Rattle.digests.specs.Sha1.{stepWith}
 use Rattle.sha1.proofs.steps.step.Statement.{statement}
 use Rattle.sha1.proofs.steps.step.Tie as tie
 

@@ -1,8 +1,9 @@
 -- `shifts` meets its promise: each case has the shifts of its round.
 use mathlib.Core.Path.{ap, sym}
 use Rattle.digests.specs.Rounds.{Round, round1, round2, round3, round4}
-use Rattle.md5.specs.declared.rounds.operations.Four.{Four}
-use Rattle.md5.specs.Sums.{roundOf, fourAt}
+use Rattle.block.specs.declared.by_four.Four.{Four}
+use Rattle.block.specs.ByFour.{fourAt}
+use Rattle.md5.specs.Sums.{roundOf}
 use Rattle.md5.proofs.rounds.Fours.{last-round}
 use Rattle.md5.proofs.rounds.operations.shifts.Statement.{statement}
 use Rattle.md5.proofs.rounds.operations.shifts.Tie as tie
