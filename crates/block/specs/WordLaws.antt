@@ -36,6 +36,10 @@ digits-word x h =
 abbrev pub firstWord : Order → List ℕ → ℕ
 firstWord order m = word order (getD m 0 0) (getD m 1 0) (getD m 2 0) (getD m 3 0)
 
+-- The four bytes of a message from a place on.
+abbrev pub fourBytes : List ℕ → ℕ → List ℕ
+fourBytes m at = getD m at 0 ∷ getD m (at + 1) 0 ∷ getD m (at + 2) 0 ∷ getD m (at + 3) 0 ∷ []
+
 -- A word written as four bytes, and read back.
 pub word-bytes4 : (order : Order) (x : ℕ) → x < 2 ^ 32 → firstWord order (bytes4 order x) ≡ x
 word-bytes4 Order.Little x h = digits-word x h

@@ -1,10 +1,13 @@
 // A message's padding, its blocks and their words, in either byte order: RFC 1321, 2, 3.1 and 3.2; FIPS 180-4, 5.1.1
 // and 5.2.1.
 ghost use mathlib.Core.Path.{_≡_};
+ghost use mathlib.Core.List.{[], _∷_};
 ghost use Prim.Native.Nat.{_+_, _*_, _<_, _≤_};
 ghost use lib.ListN.{length};
 ghost use Rattle.digests.specs.Padding.{blocks, lengthByte, paddedByte, paddedWord, blockAt};
+ghost use Rattle.digests.specs.declared.Order.{Order};
 ghost use Rattle.digests.specs.Words as spec;
+ghost use Rattle.block.specs.WordLaws.{firstWord, fourBytes};
 use digests::Order;
 
 // The sum and the rotation of words.
@@ -82,13 +85,42 @@ fn padded_word(order: Order, m: &[u8], i: usize) -> u32
     )
 }
 
-// Word i of the padded message, where it lies in the message itself.
+// The word whose bytes these are, low-order byte first.
+fn low_of(b0: u8, b1: u8, b2: u8, b3: u8) -> u32
+    ensures { λ r. ⌜ spec.bytes4 Order.Little r ≡ b0 ∷ b1 ∷ b2 ∷ b3 ∷ [] ⌝ }
+{
+    joined(Order::Little, b0, b1, b2, b3)
+}
+
+// The word whose bytes, low-order byte first, are the message's at word i.
+fn low_word(m: &[u8], i: usize) -> u32
+    requires { ⌜ 4 * i + 4 ≤ length (now m) ⌝ }
+    ensures { λ r. ⌜ spec.bytes4 Order.Little r ≡ fourBytes (now (m .entry)) (4 * i) ⌝ }
+{
+    let at = 4 * i;
+    low_of(m[at], m[at + 1], m[at + 2], m[at + 3])
+}
+
+// A word that was read low-order byte first, as it is read in an order.
+fn reread(order: Order, x: u32) -> u32
+    ensures { λ r. ⌜ r ≡ firstWord order (spec.bytes4 Order.Little x) ⌝ }
+{
+    match order {
+        Order::Little => x,
+        Order::Big => x / 16777216 % 256
+            + (x / 65536 % 256) * 256
+            + (x / 256 % 256) * 65536
+            + (x % 256) * 16777216,
+    }
+}
+
+// Word i of the padded message, where it lies in the message itself. It is read low-order byte first and then turned
+// round where that is asked for: of four bytes put together the other way round the compiler makes no one read.
 fn message_word(order: Order, m: &[u8], i: usize) -> u32
     requires { ⌜ 4 * i + 4 ≤ length (now m) ⌝ }
     ensures { λ r. ⌜ r ≡ paddedWord order (now (m .entry)) i ⌝ }
 {
-    let at = 4 * i;
-    joined(order, m[at], m[at + 1], m[at + 2], m[at + 3])
+    reread(order, low_word(m, i))
 }
 
 // Block j, all of whose bytes are the message's.
