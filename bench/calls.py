@@ -7,6 +7,7 @@ import subprocess
 
 import bounds
 import harness
+import model
 
 METER = harness.ROOT / "target" / "bin" / "meter"
 ROUNDS = 15
@@ -63,9 +64,21 @@ def due(call, accounts):
     return CALLS[call].left if accounts != "0" else NO_LINE
 
 
+def check_hashes():
+    """A thousand hashes from the password 0, of either algorithm, are the model's."""
+    for call, algorithm in ((MD5, model.MD5), (SHA1, model.SHA1)):
+        due = 0
+        for _ in range(1000):
+            due = model.hashed_once(algorithm, due)
+        said = harness.run([METER], input=f"{call}01".encode()).strip()
+        if said != f"{due:016x}":
+            raise harness.Failed(f"meter, {call}: {said}, not {due:016x}")
+
+
 def check():
     """Each call finds and leaves what its row says: what is timed is what the title has."""
     harness.run(["rt", "check", "meter"])
+    check_hashes()
     for call, accounts in [(LOOP, "3"), *repeated()]:
         said = harness.run([METER], input=f"{call}{accounts}1".encode()).strip()
         if said != due(call, accounts):

@@ -25,10 +25,12 @@ static uint64_t challenge_read(const uint8_t *text, size_t len)
     return c.refusal != 0 ? c.refusal : c.used;
 }
 
+/* A seed of one letter is MD5's, a longer one SHA-1's, whose name is longer too. */
 static uint64_t challenge_written(const uint8_t *seed, size_t len)
 {
     uint8_t buf[ROOM];
-    lift_written w = lift_write_challenge(LIFT_MD5, seed, len, COUNT, buf, sizeof buf);
+    uint32_t algorithm = len == 1 ? LIFT_MD5 : LIFT_SHA1;
+    lift_written w = lift_write_challenge(algorithm, seed, len, COUNT, buf, sizeof buf);
     return w.refusal != 0 ? w.refusal : w.written;
 }
 
@@ -45,9 +47,9 @@ static const row rows[] = {
     {"reply-hex", "85c43ee03857765b", reply_read, 0x85c43ee03857765b},
     {"challenge-empty", "", challenge_read, 20},
     {"challenge-short", "otp-md5 0 t\n", challenge_read, 12},
-    {"challenge-long", "otp-md5 9999 ABCDEFGHijkl6789\n", challenge_read, 30},
+    {"challenge-long", "otp-sha1 9999 ABCDEFGHijkl6789\n", challenge_read, 31},
     {"written-short", "t", challenge_written, 15},
-    {"written-long", "ABCDEFGHijkl6789", challenge_written, 30},
+    {"written-long", "ABCDEFGHijkl6789", challenge_written, 31},
 };
 
 static uint64_t answer_to(const row *one)

@@ -13,7 +13,7 @@ KINDS = {"lib", "main", "laws", "inside", "examples"}
 DEFINED = {("digests", "md5"), ("digests", "sha1"), ("digests", "rounds")}
 # The digests are of one kind, and what is the same part of each has one name.
 DIGESTS = {"md5", "sha1"}
-PARTS = {"compress", "digest", "functions"}
+PARTS = {"compress", "digest", "digestbytes", "functions"}
 # The crates of a table's fields: who takes a table apart lists them too.
 FIELDS = {"accounts", "line", "port"}
 

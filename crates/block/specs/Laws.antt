@@ -6,7 +6,7 @@ use borrow.Author.Tests.{lt-ltb, le-ltb, eq-eqb, ne-eqb}
 use native.Mathlib.Omega.{arith}
 use lib.ListN.{length, getD}
 use Rattle.digests.specs.declared.Order.{Order}
-use Rattle.digests.specs.Words.{word}
+use Rattle.digests.specs.Words32.{word}
 use Rattle.digests.specs.Padding.{blocks, lengthByte, paddedByte, paddedWord}
 
 module _ (order : Order) (m : List ℕ) (i : ℕ) where

@@ -7,7 +7,7 @@ use native.Mathlib.Omega.{arith}
 use lib.ListN.{length, getD}
 use lib.Pow.{shr-shr}
 use Rattle.digests.specs.declared.Order.{Order}
-use Rattle.digests.specs.Words.{word, bytes4}
+use Rattle.digests.specs.Words32.{word, bytes4}
 
 pub length-bytes4 : (order : Order) (x : ℕ) → length (bytes4 order x) ≡ 4
 length-bytes4 Order.Little x = refl

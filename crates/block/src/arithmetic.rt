@@ -1,7 +1,7 @@
 // RFC 1321, 2; FIPS 180-4, 2.2.2 and 3.2: the sum and the rotation of words of 32 bits.
 ghost use mathlib.Core.Path.{_≡_};
 ghost use Prim.Native.Nat.{_<_};
-ghost use Rattle.digests.specs.Words as spec;
+ghost use Rattle.digests.specs.Words32 as spec;
 
 // The sum without the carry out of the top.
 pub fn add(x: u32, y: u32) -> u32

@@ -6,7 +6,7 @@ ghost use Prim.Native.Nat.{_+_, _*_, _<_, _≤_};
 ghost use lib.ListN.{length};
 ghost use Rattle.digests.specs.Padding.{blocks, lengthByte, paddedByte, paddedWord, blockAt};
 ghost use Rattle.digests.specs.declared.Order.{Order};
-ghost use Rattle.digests.specs.Words as spec;
+ghost use Rattle.digests.specs.Words32 as spec;
 ghost use Rattle.block.specs.WordLaws.{firstWord, fourBytes};
 use digests::Order;
 
@@ -15,7 +15,7 @@ pub mod arithmetic;
 // Sixteen words, four at a time.
 pub mod by_four;
 // The words of a digest as bytes at the front of a buffer.
-pub mod put;
+pub mod as_bytes;
 
 // How many blocks the padded message has.
 pub fn count(m: &[u8]) -> usize

@@ -7,13 +7,13 @@ use Rattle.block.proofs.block.Reads as block
 use Rattle.block.proofs.arithmetic.add.Reads as add
 use Rattle.block.proofs.arithmetic.rotated.Reads as rotated
 use Rattle.block.proofs.by_four.part.Reads as part
-use Rattle.block.proofs.put.word.Reads as put-word
-use Rattle.block.proofs.put.two_words.Reads as put-two-words
+use Rattle.block.proofs.as_bytes.word.Reads as put-word
+use Rattle.block.proofs.as_bytes.two_words.Reads as put-two-words
 use Rattle.md5.proofs.compress.compress_eight.Reads as compress-eight
 use Rattle.md5.proofs.compress.registers.Reads as registers
 use Rattle.md5.proofs.digest.digest.Reads as digest
 use Rattle.sha1.proofs.compress.compress_eight.Reads as sha1-compress-eight
-use Rattle.sha1.proofs.compress.registers.Reads as sha1-registers
+use Rattle.sha1.proofs.compress.hash_value.Reads as hash-value
 use Rattle.sha1.proofs.digest.digest.Reads as sha1-digest
 use Rattle.password.proofs.phrase_and_seed.check_phrase.Reads as check-phrase
 use Rattle.password.proofs.phrase_and_seed.check_seed.Reads as check-seed
@@ -63,8 +63,8 @@ digest-determined k a y z e f p q = left _ _ p q
 pub sha1-compress-eight-determined : Answers sha1-compress-eight.Learnt
 sha1-compress-eight-determined k a y z e f p q = p ∙ sym q
 
-pub sha1-registers-determined : Answers sha1-registers.Learnt
-sha1-registers-determined k a y z e f p q = p ∙ sym q
+pub hash-value-determined : Answers hash-value.Learnt
+hash-value-determined k a y z e f p q = p ∙ sym q
 
 pub sha1-digest-determined : AnswersAndLent sha1-digest.Learnt (λ k e. now (e .1 .0))
 sha1-digest-determined k a y z e f p q = left _ _ p q

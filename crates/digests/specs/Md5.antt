@@ -4,7 +4,7 @@ use mathlib.Core.List.{List, _++_}
 use lib.ListN.{length}
 use Rattle.digests.specs.declared.Order.{Order}
 use Rattle.digests.specs.declared.State.{State}
-use Rattle.digests.specs.Words.{bytes4}
+use Rattle.digests.specs.Words32.{bytes4}
 use Rattle.digests.specs.Padding.{blocks, absorbed}
 use Rattle.digests.specs.Rounds.{compressed}
 

@@ -7,7 +7,7 @@ use lib.Dec.{ltb, eqb}
 use lib.ListN.{length, getD}
 use Rattle.digests.specs.declared.Order.{Order}
 use Rattle.digests.specs.Lists.{upTo}
-use Rattle.digests.specs.Words.{word}
+use Rattle.digests.specs.Words32.{word}
 
 -- RFC 1321, 3.1 and 3.2; FIPS 180-4, 5.1.1: how many blocks of 64 bytes a message of n bytes takes: the fewest that hold the message,
 -- the byte that starts the padding, and the eight bytes of the length.

@@ -4,7 +4,7 @@ use mathlib.Core.List.{List, [], _∷_}
 use lib.Bits.{bitAnd, bitOr, bitXor}
 use lib.ListN.{getD}
 use Rattle.digests.specs.declared.State.{State}
-use Rattle.digests.specs.Words.{add, rotated, complement}
+use Rattle.digests.specs.Words32.{add, rotated, complement}
 
 -- 3.4: the four functions
 abbrev pub F : ℕ → ℕ → ℕ → ℕ

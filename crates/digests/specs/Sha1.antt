@@ -7,7 +7,7 @@ use lib.Dec.{ltb}
 use lib.ListN.{length, getD}
 use Rattle.digests.specs.declared.Order.{Order}
 use Rattle.digests.specs.declared.FiveWords.{FiveWords}
-use Rattle.digests.specs.Words.{add, rotated, complement, bytes4}
+use Rattle.digests.specs.Words32.{add, rotated, complement, bytes4}
 use Rattle.digests.specs.Padding.{blocks, absorbed}
 
 -- 4.1.1: the functions, and the one of step t

@@ -1,3 +1,3 @@
 -- What the proofs of `generator`'s functions share.
 pub mod Chained
-pub mod Words
+pub mod TwoWords

@@ -1,7 +1,7 @@
 // One step of the chain.
 ghost use mathlib.Core.Path.{_≡_};
 ghost use mathlib.Core.List.{_++_};
-ghost use Rattle.digests.specs.Words.{bytes4};
+ghost use Rattle.digests.specs.Words32.{bytes4};
 ghost use Rattle.password.specs.Password as spec;
 use crate::fold::folded_md5;
 use crate::fold::folded_sha1;

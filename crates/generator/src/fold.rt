@@ -2,7 +2,7 @@
 ghost use mathlib.Core.Path.{_≡_};
 ghost use mathlib.Core.List.{_++_};
 ghost use Rattle.digests.specs.declared.Order.{Order};
-ghost use Rattle.digests.specs.Words.{bytes4};
+ghost use Rattle.digests.specs.Words32.{bytes4};
 ghost use Rattle.digests.specs.Md5.{output};
 ghost use Rattle.password.specs.Password as spec;
 use digests::FiveWords;

@@ -31,7 +31,7 @@ fn hash(algorithm: Algorithm, m: &[u8]) -> u64
 {
     match algorithm {
         Algorithm::Md5 => folded_md5(md5::compress::registers(m)),
-        Algorithm::Sha1 => folded_sha1(sha1::compress::registers(m)),
+        Algorithm::Sha1 => folded_sha1(sha1::compress::hash_value(m)),
     }
 }
 

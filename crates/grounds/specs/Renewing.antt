@@ -46,6 +46,6 @@ pub algorithm-changes : (answers changing fresh ≡ Answer.Done ∷ Answer.Done 
 unfolding answers run enrolChecked enrol joinChecked join turnChecked offered replyRead reply renewChecked renewRead renew
     placeOf some joined others turnWithout without plain every same codes readingOf sixWords isWord sixteenDigits hexReading
     parted unspaced digitsOf Digits.numberAfter hash fold foldWords numberAfter md5 registers absorbed compressed rounds
-    performed operation round1 round2 round3 round4 Sha1.hashValue Sha1.compressed Sha1.schedule Sha1.longer Sha1.steps Sha1.step
+    performed operation round1 round2 round3 round4 Sha1.hashValue Sha1.compressed Sha1.schedule Sha1.longer Sha1.steps Sha1.step Sha1.stepWith
     Sha1.f Sha1.K blockAt paddedWord paddedByte upTo
 algorithm-changes = (refl, refl)

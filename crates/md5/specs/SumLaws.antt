@@ -7,7 +7,7 @@ use native.Mathlib.Omega.{arith}
 use lib.ListN.{getD}
 use Rattle.digests.specs.Lists.{getD-upTo}
 use Rattle.digests.specs.declared.State.{State}
-use Rattle.digests.specs.Words.{add, rotated}
+use Rattle.digests.specs.Words32.{add, rotated}
 use Rattle.digests.specs.Rounds.{Round, operation, performed, round1, round2, round3, round4, rounds, increased, compressed}
 use Rattle.md5.specs.Sums.{operationSummed, operationOf, operationsSummed, sums, mixed}
 

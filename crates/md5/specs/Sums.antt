@@ -8,7 +8,7 @@ use lib.ListN.{getD}
 use Rattle.digests.specs.Lists.{upTo}
 use Rattle.digests.specs.declared.State.{State}
 use Rattle.block.specs.declared.by_four.Four.{Four}
-use Rattle.digests.specs.Words.{add, rotated}
+use Rattle.digests.specs.Words32.{add, rotated}
 use Rattle.digests.specs.Rounds.{Round, round1, round2, round3, round4, increased}
 
 -- The rounds by their numbers, 1 to 4.

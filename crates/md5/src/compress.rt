@@ -5,7 +5,7 @@ ghost use Prim.Native.Nat.{_≤_};
 ghost use lib.ListN.{length};
 ghost use Rattle.digests.specs.Rounds.{compressed};
 ghost use Rattle.digests.specs.declared.Order.{Order};
-ghost use Rattle.digests.specs.Words.{bytes4};
+ghost use Rattle.digests.specs.Words32.{bytes4};
 ghost use Rattle.digests.specs.Md5 as spec;
 use crate::rounds::mixed;
 use crate::sums::CONSTANTS_1;

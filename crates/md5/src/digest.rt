@@ -5,7 +5,7 @@ ghost use Rattle.text.specs.Put.{leaves};
 ghost use Rattle.digests.specs.Md5.{md5};
 ghost use Rattle.block.specs.Digest.{digestOf};
 use crate::compress::registers;
-use block::put::two_words;
+use block::as_bytes::two_words;
 use digests::Order;
 use refusal::Refusal;
 use refusal::Written;

@@ -6,7 +6,7 @@ use native.Mathlib.Nat.{mod-lt}
 use native.Mathlib.Omega.{arith}
 use lib.Bits.{bitXor}
 use Rattle.digests.specs.declared.Order.{Order}
-use Rattle.digests.specs.Words.{bytes4}
+use Rattle.digests.specs.Words32.{bytes4}
 use Rattle.digests.specs.Md5.{registers, md5}
 use Rattle.digests.specs.Sha1.{hashValue}
 use Rattle.text.specs.Kinds.{lowerOf}

@@ -5,7 +5,7 @@ use mathlib.Core.List.{[], _∷_, _++_}
 use lib.Bits.{bitXor, xor-shr, xor-mod}
 use Rattle.digests.specs.declared.Order.{Order}
 use Rattle.digests.specs.Lists.{upTo}
-use Rattle.digests.specs.Words.{bytes4}
+use Rattle.digests.specs.Words32.{bytes4}
 use Rattle.password.specs.Password.{fold}
 
 -- A byte of an exclusive or is the exclusive or of the bytes.

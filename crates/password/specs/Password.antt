@@ -12,7 +12,7 @@ use Rattle.refusal.specs.Checks.{unless}
 use Rattle.text.specs.Kinds.{lowerOf}
 use Rattle.digests.specs.declared.Order.{Order}
 use Rattle.digests.specs.declared.FiveWords.{FiveWords}
-use Rattle.digests.specs.Words.{bytes4}
+use Rattle.digests.specs.Words32.{bytes4}
 use Rattle.digests.specs.Md5.{md5}
 use Rattle.digests.specs.Sha1.{hashValue, sha1}
 use Rattle.password.specs.PhraseAndSeed.{phraseChecked, seedChecked}

@@ -12,7 +12,7 @@ use lib.Dec.{ltb}
 use lib.ListN.{length, getD, set, length-append, length-set, List·getD-append}
 use lib.Seq.{getD-append-seam, getD-set-same, getD-set-other, ext-getD}
 use Rattle.digests.specs.Lists.{upTo, length-upTo, getD-upTo}
-use Rattle.digests.specs.Words.{rotated}
+use Rattle.digests.specs.Words32.{rotated}
 use Rattle.digests.specs.Sha1.{wordAt, longer, schedule}
 use Rattle.sha1.specs.Inside.{scheduled, following}
 

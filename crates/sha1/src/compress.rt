@@ -4,10 +4,10 @@ ghost use mathlib.Core.List.{_++_};
 ghost use Prim.Native.Nat.{_≤_};
 ghost use lib.ListN.{length};
 ghost use Rattle.digests.specs.declared.Order.{Order};
-ghost use Rattle.digests.specs.Words.{bytes4};
+ghost use Rattle.digests.specs.Words32.{bytes4};
 ghost use Rattle.digests.specs.Sha1 as spec;
+use crate::eighty_steps::sixteen_of;
 use crate::schedule::following;
-use crate::steps::sixteen_of;
 use block::arithmetic::add;
 use digests::FiveWords;
 use digests::Order;
@@ -74,7 +74,7 @@ pub fn compress_eight(first: u32, second: u32) -> FiveWords
 }
 
 // The hash value after the whole message.
-pub fn registers(m: &[u8]) -> FiveWords
+pub fn hash_value(m: &[u8]) -> FiveWords
     requires { ⌜ length (now m) ≤ 4096 ⌝ }
     ensures { λ r. ⌜ r ≡ spec.hashValue (now (m .entry)) ⌝ }
 {

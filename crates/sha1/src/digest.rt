@@ -4,9 +4,9 @@ ghost use lib.ListN.{length};
 ghost use Rattle.text.specs.Put.{leaves};
 ghost use Rattle.digests.specs.Sha1.{sha1};
 ghost use Rattle.block.specs.Digest.{digestOf};
-use crate::compress::registers;
-use block::put::two_words;
-use block::put::word;
+use crate::compress::hash_value;
+use block::as_bytes::two_words;
+use block::as_bytes::word;
 use digests::Order;
 use refusal::Refusal;
 use refusal::Written;
@@ -22,7 +22,7 @@ pub fn digest(m: &[u8], buf: &mut [u8]) -> Written
     if buf.len() < 20 {
         return Written::Refused(Refusal::BufferShort);
     }
-    let h = registers(m);
+    let h = hash_value(m);
     let a = two_words(Order::Big, buf, h.a, h.b);
     let b = a + two_words(Order::Big, &mut buf[a..], h.c, h.d);
     Written::Wrote(b + word(Order::Big, &mut buf[b..], h.e))

@@ -3,7 +3,7 @@
 // The message schedule, sixteen words at a time.
 mod schedule;
 // The eighty steps on the working variables.
-mod steps;
+mod eighty_steps;
 // The hash value after a message, and after one of eight bytes.
 pub mod compress;
 // The digest of a message of 0 to 4,096 bytes, at the front of a lent buffer.

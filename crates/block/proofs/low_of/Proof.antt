@@ -2,7 +2,7 @@
 use mathlib.Core.Path.{ap, _∙_}
 use borrow.Author.Needs.{needs}
 use Rattle.digests.specs.declared.Order.{Order}
-use Rattle.digests.specs.Words.{bytes4}
+use Rattle.digests.specs.Words32.{bytes4}
 use Rattle.block.specs.WordLaws.{bytes4-word}
 use Rattle.block.proofs.low_of.Statement.{statement}
 use Rattle.block.proofs.low_of.Tie as tie

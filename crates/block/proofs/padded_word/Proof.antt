@@ -1,7 +1,7 @@
 -- `padded_word` meets its promise: the four bytes are the padded message's.
 use borrow.Author.Needs.{needs}
 use mathlib.Core.Path.{_∙_}
-use Rattle.digests.specs.Words.{word}
+use Rattle.digests.specs.Words32.{word}
 use Rattle.digests.specs.Padding.{paddedWord}
 use Rattle.block.proofs.padded_word.Statement.{statement}
 use Rattle.block.proofs.padded_word.Tie as tie

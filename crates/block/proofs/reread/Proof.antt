@@ -3,7 +3,7 @@ use Prim.Native.Nat.{ℕ}
 use mathlib.Core.Path.{sym, ap, _∙_}
 use borrow.Author.Needs.{needs}
 use Rattle.digests.specs.declared.Order.{Order}
-use Rattle.digests.specs.Words.{bytes4}
+use Rattle.digests.specs.Words32.{bytes4}
 use Rattle.block.specs.WordLaws.{firstWord, word-bytes4}
 use Rattle.block.proofs.reread.Statement.{statement}
 use Rattle.block.proofs.reread.Tie as tie

@@ -20,7 +20,7 @@ returns-2 : tie.Need-returns-2
 unfolding hash
 returns-2 c =
     let told = c .before .before in
-    c .folded-sha1 .ensures ∙ ap (λ (h : FiveWords). numberOf (foldWords h)) (c .before .registers2 .ensures)
+    c .folded-sha1 .ensures ∙ ap (λ (h : FiveWords). numberOf (foldWords h)) (c .before .hash-value .ensures)
     ∙ sym (ap (λ (a : Algorithm). hash a (told .before .before .before .args .m .now)) (told .enum-told2 .given .1))
 
 pub hash-spec : {M : Type 1} → statement M

@@ -8,7 +8,7 @@ use Rattle.text.specs.Put.{Put}
 use Rattle.text.specs.PutLaws.{then-put}
 use Rattle.digests.specs.declared.Order.{Order}
 use Rattle.digests.specs.declared.FiveWords.{FiveWords}
-use Rattle.digests.specs.Words.{bytes4}
+use Rattle.digests.specs.Words32.{bytes4}
 use Rattle.digests.specs.Sha1.{hashValue, sha1}
 use Rattle.block.specs.WordLaws.{bytes8}
 

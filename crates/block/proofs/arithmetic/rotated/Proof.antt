@@ -3,7 +3,7 @@ use Prim.Native.Nat.{_%_}
 use mathlib.Core.Path.{_≡_, ap}
 use borrow.Author.Needs.{needs}
 use native.Mathlib.Omega.{arith}
-use Rattle.digests.specs.Words.{rotated}
+use Rattle.digests.specs.Words32.{rotated}
 use Rattle.block.proofs.arithmetic.rotated.Statement.{statement}
 use Rattle.block.proofs.arithmetic.rotated.Tie as tie
 

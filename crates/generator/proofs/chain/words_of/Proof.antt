@@ -1,6 +1,6 @@
 -- `words_of` meets its promise: four bytes as a word and written again are the same.
 use borrow.Author.Needs.{needs}
-use Rattle.generator.proofs.Words.{two-words}
+use Rattle.generator.proofs.TwoWords.{two-words}
 use Rattle.generator.proofs.chain.words_of.Statement.{statement}
 use Rattle.generator.proofs.chain.words_of.Tie as tie
 

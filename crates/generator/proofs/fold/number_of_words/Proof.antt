@@ -4,7 +4,7 @@ use mathlib.Core.Path.{_≡_, sym, ap₂, _∙_}
 use borrow.Author.Needs.{needs}
 use native.Mathlib.Omega.{arith}
 use Rattle.digests.specs.declared.Order.{Order}
-use Rattle.digests.specs.Words.{bytes4}
+use Rattle.digests.specs.Words32.{bytes4}
 use Rattle.password.specs.Password.{numberOf}
 use Rattle.password.specs.EightBytesLaws.{number-four, number-eight}
 use Rattle.generator.proofs.fold.number_of_words.Statement.{statement}

@@ -8,7 +8,7 @@ use Rattle.digests.specs.Padding.{paddedByte, paddedWord, blockAt, absorbed}
 use Rattle.digests.specs.Rounds.{round1, round2, round3, round4, compressed}
 use Rattle.md5.specs.SumLaws.{compressed-by-sums}
 use Rattle.digests.specs.declared.Order.{Order}
-use Rattle.digests.specs.Words.{bytes4}
+use Rattle.digests.specs.Words32.{bytes4}
 use Rattle.digests.specs.Md5.{initial, registers}
 use Rattle.block.specs.WordLaws.{word-bytes4}
 use Rattle.md5.proofs.compress.compress_eight.Statement.{statement}

@@ -4,7 +4,7 @@ use borrow.Author.Needs.{needs}
 use native.Mathlib.Omega.{arith}
 use lib.ListN.{getD}
 use Rattle.digests.specs.Lists.{Filling, filling-starts, filling-goes-on, filling-ends}
-use Rattle.digests.specs.Words.{add}
+use Rattle.digests.specs.Words32.{add}
 use Rattle.md5.specs.Sums.{sums}
 use Rattle.md5.proofs.Orders.{below-at}
 use Rattle.md5.proofs.sums.sums.Statement.{statement}

@@ -5,7 +5,7 @@ use mathlib.Core.List.{List, [], _∷_, _++_}
 use borrow.Author.Needs.{needs}
 use Rattle.digests.specs.declared.Order.{Order}
 use Rattle.digests.specs.Lists.{upTo}
-use Rattle.digests.specs.Words.{bytes4}
+use Rattle.digests.specs.Words32.{bytes4}
 use Rattle.digests.specs.Padding.{paddedByte, paddedWord, blockAt, absorbed}
 use Rattle.digests.specs.Sha1.{initial, compressed, hashValue}
 use Rattle.block.specs.WordLaws.{word-bytes4}

@@ -13,7 +13,7 @@ returns-3 c =
     let second = c .before .before .before .before .before .before in
     let known = second .before .before .before .before in
     let start = known .before .before .before .before .before .before .before in
-    let put = digest-put (start .args .m .now) _ _ _ _ _ _ _ _ (known .before .before .registers .ensures)
+    let put = digest-put (start .args .m .now) _ _ _ _ _ _ _ _ (known .before .before .hash-value .ensures)
     (known .two-words .ensures) (second .two-words2 .ensures) (c .before .before .word .ensures) in (
       simp (
         le-ltb 4096 _ (known .before .before .before .before .if1 .left),

@@ -2,7 +2,7 @@
 use Prim.Native.Nat.{ℕ}
 use mathlib.Core.Path.{_≡_, ap, _∙_}
 use borrow.Author.Needs.{needs}
-use Rattle.digests.specs.Words.{add, rotated}
+use Rattle.digests.specs.Words32.{add, rotated}
 use Rattle.md5.specs.Sums.{operationSummed}
 use Rattle.md5.proofs.rounds.operations.operation.Statement.{statement}
 use Rattle.md5.proofs.rounds.operations.operation.Tie as tie
