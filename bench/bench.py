@@ -32,6 +32,7 @@ WHOSE = {
     "clang": "best C, clang -O3",
     "heimdal": "Heimdal's libotp",
     "generator": "one generator call",
+    "known": "six known words",
 }
 # the rows in C: a bound is held against the fastest of them
 IN_C = ["plain", "gcc", "clang"]
@@ -43,6 +44,7 @@ COMPARED = {
     **{f"{name}-chain": (f"9,999 {title} chain steps", "a step") for name, title in ALGORITHMS.items()},
     **{f"{name}-digest-4096": (f"{title} of 4,096 bytes", "a block") for name, title in ALGORITHMS.items()},
     "words-read": ("4,096 six words read", "a text"),
+    "words-misread": ("4,096 misread lines read", "a text"),
     "words-written": ("4,096 six words written", "a text"),
     "hex-read": ("4,096 hex texts read", "a text"),
     "hex-written": ("4,096 hex texts written", "a text"),

@@ -17,7 +17,7 @@ typedef struct {
 
 static uint64_t passwords[PASSWORDS];
 static unsigned char keys[PASSWORDS][8];
-static written_text words[PASSWORDS], hex[PASSWORDS];
+static written_text words[PASSWORDS], misread[PASSWORDS], hex[PASSWORDS];
 
 typedef uint64_t reader(const written_text *text);
 typedef size_t writer(size_t which, char buf[ROOM]);
@@ -25,6 +25,11 @@ typedef size_t writer(size_t which, char buf[ROOM]);
 static uint64_t proved_reader(const written_text *text)
 {
     return lift_read_reply((const uint8_t *)text->bytes, text->len).password;
+}
+
+static uint32_t marks_of(const written_text *text)
+{
+    return lift_read_reply((const uint8_t *)text->bytes, text->len).marks;
 }
 
 static uint64_t heimdal_words_reader(const written_text *text)
@@ -72,6 +77,13 @@ static uint64_t next_password(uint64_t *state)
     return z ^ z >> 31;
 }
 
+/* A line whose first word isn't in the dictionary: Q for each of its letters. */
+static written_text first_misread(written_text text)
+{
+    memset(text.bytes, 'Q', strcspn(text.bytes, " "));
+    return text;
+}
+
 static void make_passwords(void)
 {
     uint64_t state = 2289;
@@ -79,6 +91,7 @@ static void make_passwords(void)
         passwords[i] = next_password(&state);
         lift_bytes_of(passwords[i], keys[i]);
         words[i].len = proved_words_writer(i, words[i].bytes);
+        misread[i] = first_misread(words[i]);
         hex[i].len = proved_hex_writer(i, hex[i].bytes);
     }
 }
@@ -99,6 +112,7 @@ void check_words(void)
     make_passwords();
     for (size_t i = 0; i < PASSWORDS; i++) {
         same(proved_reader(&words[i]) == passwords[i], "words read, the password written");
+        same(marks_of(&misread[i]) == LIFT_MARK(1), "words misread, the first marked");
         same(proved_reader(&hex[i]) == passwords[i], "hex read, the password written");
         if (heimdal != NULL)
             check_heimdal(i);
@@ -147,8 +161,27 @@ static void time_subject(const subject *one)
     time_writer("hex-written", one->whose, one->write_hex);
 }
 
+/* What it costs that a misread line is looked up to its end (R-2): beside lines of known words, and beside Heimdal, which stops at
+ * the first unknown word. */
+static void time_misread(size_t round)
+{
+    size_t there = heimdal == NULL ? 2 : 3;
+    for (size_t k = 0; k < there; k++)
+        switch (rotated(round, k, there)) {
+        case 0:
+            time_reader("words-misread", "proved", proved_reader, misread);
+            break;
+        case 1:
+            time_reader("words-misread", "known", proved_reader, words);
+            break;
+        default:
+            time_reader("words-misread", "heimdal", heimdal_words_reader, misread);
+        }
+}
+
 void time_words(size_t round)
 {
+    time_misread(round);
     size_t there = heimdal == NULL ? 1 : LENGTH_OF(subjects);
     for (size_t k = 0; k < there; k++)
         time_subject(&subjects[rotated(round, k, there)]);

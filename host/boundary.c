@@ -62,12 +62,12 @@ bool refused(lift_written w, uint32_t number)
 
 bool reads(lift_reading r, uint64_t password)
 {
-    return r.refusal == 0 && r.place == 0 && r.password == password;
+    return r.refusal == 0 && r.marks == 0 && r.password == password;
 }
 
-bool refuses(lift_reading r, uint32_t number, uint32_t place)
+bool refuses(lift_reading r, uint32_t number, uint32_t marks)
 {
-    return r.refusal == number && r.place == place && r.password == 0;
+    return r.refusal == number && r.marks == marks && r.password == 0;
 }
 
 void check_writer(lift_written (*write)(uint64_t, uint8_t *, size_t),

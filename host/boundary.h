@@ -39,7 +39,7 @@ void unmap(uint8_t *region, size_t len);
 bool wrote(lift_written w, size_t written);
 bool refused(lift_written w, uint32_t number);
 bool reads(lift_reading r, uint64_t password);
-bool refuses(lift_reading r, uint32_t number, uint32_t place);
+bool refuses(lift_reading r, uint32_t number, uint32_t marks);
 
 /* A writer at every room, past its text's length; only that text is touched. */
 void check_writer(lift_written (*write)(uint64_t, uint8_t *, size_t),

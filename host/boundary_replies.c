@@ -28,10 +28,12 @@ static void check_read_reply(int side)
     CHECK(refuses(reply_text(side, "FOWL KID MASH DEAD DUAL"), 33, 0));
     CHECK(refuses(reply_text(side, ""), 33, 0));
     CHECK(refuses(lift_read_reply(NULL, 0), 33, 0));
-    for (uint32_t place = 1; place <= 6; place++) {
+    for (uint32_t marks = 1; marks <= 63; marks++) {
         char text[] = "A A A A A A";
-        text[2 * (place - 1)] = 'Q'; /* no word */
-        CHECK(refuses(reply_text(side, text), 31, place));
+        for (int word = 1; word <= 6; word++)
+            if (marks & LIFT_MARK(word))
+                text[2 * (word - 1)] = 'Q'; /* no word */
+        CHECK(refuses(reply_text(side, text), 31, marks));
     }
     memset(long_text, ' ', sizeof long_text);
     memcpy(long_text + 117, "a a a a a a", 11);

@@ -34,16 +34,25 @@ static void print_hex(const uint8_t *bytes, size_t len)
         printf("%02x", bytes[i]);
 }
 
-/* After a refusal every field but 31's place has to be 0. */
+/* 31's marks as six of `0` and `1`, in the words' order. */
+static void print_marks(uint32_t marks)
+{
+    for (int k = 1; k <= 6; k++)
+        putchar(marks & LIFT_MARK(k) ? '1' : '0');
+}
+
+/* After a refusal every field but 31's marks has to be 0; those are 1 to 63. */
 static void print_reading(lift_reading r)
 {
-    bool clean = (r.refusal == 0 || r.password == 0) && (r.refusal == 31 || r.place == 0);
+    bool clean = (r.refusal == 0 || r.password == 0) && (r.refusal == 31 ? 1 <= r.marks && r.marks <= 63 : r.marks == 0);
     if (r.refusal == 0)
         printf("ok %016" PRIx64, r.password);
-    else if (r.refusal == 31)
-        printf("no 31 %" PRIu32, r.place);
     else
         printf("no %" PRIu32, r.refusal);
+    if (r.refusal == 31) {
+        putchar(' ');
+        print_marks(r.marks);
+    }
     puts(clean ? "" : " dirty");
 }
 

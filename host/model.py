@@ -15,16 +15,16 @@ PLACE_OF = {word: place for place, word in enumerate(WORDS)}
 
 
 class Refused(Exception):
-    """One of document 01's refusal numbers; 31 has its place too."""
+    """One of document 01's refusal numbers; 31 has its marks too (02, R-2)."""
 
-    def __init__(self, number, place=0):
+    def __init__(self, number, marks=""):
         super().__init__(number)
-        self.number, self.place = number, place
+        self.number, self.marks = number, marks
 
 
-def refuse_if(fault, number, place=0):
+def refuse_if(fault, number, marks=""):
     if fault:
-        raise Refused(number, place)
+        raise Refused(number, marks)
 
 
 # 02, R-1: an algorithm is a number at a call, and a name in a text
@@ -137,11 +137,16 @@ def into_room(text, room):
     return text
 
 
+def marks_of(words):
+    """02, R-2: `1` where a word isn't in the dictionary, else `0`."""
+    return "".join("0" if word in PLACE_OF else "1" for word in words)
+
+
 def read_words(tokens):
-    """Six tokens of letters: 31 for the first unknown word, then 32."""
+    """Six tokens of letters: 31 with a `1` for each unknown word, then 32."""
     words = [token.decode().upper() for token in tokens]
-    for place, word in enumerate(words, 1):
-        refuse_if(word not in PLACE_OF, 31, place)
+    marks = marks_of(words)
+    refuse_if("1" in marks, 31, marks)
     bits = 0
     for word in words:
         bits = bits << 11 | PLACE_OF[word]
@@ -451,8 +456,8 @@ def answer(table, line):
     except Bad:
         return "bad"
     except Refused as refusal:
-        place = f" {refusal.place}" if refusal.number == 31 else ""
-        return f"no {refusal.number}{place}{clean}"
+        marks = f" {refusal.marks}" if refusal.marks else ""
+        return f"no {refusal.number}{marks}{clean}"
     if clean:
         value = f"{len(value)} {hex_word(value)}"
     return "ok" + ("" if value is None else f" {value}") + clean

@@ -19,6 +19,8 @@ PHRASES = [b"A_Valid_Pass_Phrase", b"This is a test.", b"\0" * 10, bytes(range(1
 NUMBERS = [10, 11, 12, 13, *range(20, 26), *range(30, 34), 40, *range(50, 64), 70]
 # the calls that are told an algorithm, by number or in a challenge: each can give 21
 TOLD = ["gen", "chal", "wchal", "card", "enrol", "renew"]
+# and those that read a reply
+READERS = ["read", "reply", "renew"]
 
 
 class Day:

@@ -7,7 +7,7 @@
  *
  * What every call gives
  *   - `refusal` is 0, or one of the numbers of `enum lift_refusal`. After a
- *     refusal every other field is 0, except `place` beside 31.
+ *     refusal every other field is 0, except `marks` beside 31.
  *   - Checks run in the order in which a function's comment lists its
  *     refusals; the first that fails is the answer.
  *   - A writer touches only the first `written` bytes of the buffer lent to
@@ -42,7 +42,7 @@ extern "C" {
 
 /* Which state of this header it is: 0 for the base, n after change request
  * R-n. */
-#define LIFT_VERSION 1
+#define LIFT_VERSION 2
 
 /* The algorithms by number. Any other number is refused as unknown (21); it is
  * compared whole, so 257 isn't 1. In a text an algorithm is its name, `md5` or
@@ -90,12 +90,16 @@ enum lift_refusal {
 };
 
 /* A password, as the 64-bit number whose first byte is the most significant,
- * or a refusal. `place` is 1 to 6 with refusal 31, otherwise 0. */
+ * or a refusal. `marks` is 1 to 63 with refusal 31, otherwise 0: LIFT_MARK(k)
+ * is set in it exactly where word k, 1 to 6, is not in the dictionary. */
 typedef struct {
     uint64_t password;
     uint32_t refusal;
-    uint32_t place;
+    uint32_t marks;
 } lift_reading;
+
+/* The mark of word 1 to 6. */
+#define LIFT_MARK(word) ((uint32_t)1 << ((word) - 1))
 
 /* How many bytes a writer put at the front of the buffer, or a refusal. */
 typedef struct {
@@ -144,7 +148,7 @@ lift_reading lift_password(uint32_t algorithm,
  * spaces, tabs, carriage returns and newlines. Six tokens of one to four
  * letters are words, even where they could be hex.
  *   30  text_len is over 128
- *   31  a word is not in the dictionary; `place` is that of the first such
+ *   31  a word is not in the dictionary; `marks` has a mark for each such
  *   32  the words are known, but their check sum is wrong
  *   33  neither six words nor sixteen digits */
 lift_reading lift_read_reply(const uint8_t *text, size_t text_len);

@@ -8,6 +8,7 @@
 #define BYTES(string) (const uint8_t *)(string), strlen(string)
 
 static const char phrase[] = "A_Valid_Pass_Phrase", challenge[] = "otp-md5 99 AValidSeed\n";
+static const char misread[] = "FOWL KIO MASH DEAD DUAL OAP"; /* KID and OAF, off a smudged card */
 
 static void print_text(const char *what, const uint8_t *text, lift_written result)
 {
@@ -15,6 +16,25 @@ static void print_text(const char *what, const uint8_t *text, lift_written resul
         printf("%s refused %u\n", what, (unsigned)result.refusal);
     else
         printf("%s %.*s\n", what, (int)result.written, (const char *)text);
+}
+
+/* What may stand between words. */
+static int is_blank(char c)
+{
+    return c == ' ' || c == '\t' || c == '\r' || c == '\n';
+}
+
+/* A typed line, and below it a caret under each letter of a word that is marked. */
+static void print_marked(const char *typed, uint32_t marks)
+{
+    int word = 0;
+    puts(typed);
+    for (size_t i = 0; typed[i] != '\0'; i++) {
+        if (!is_blank(typed[i]) && (i == 0 || is_blank(typed[i - 1])))
+            word++;
+        putchar(!is_blank(typed[i]) && marks & LIFT_MARK(word) ? '^' : ' ');
+    }
+    putchar('\n');
 }
 
 int main(void)
@@ -32,9 +52,10 @@ int main(void)
     printf("typed the same %d\n", typed.refusal == 0 && typed.password == made.password);
     typed = lift_read_reply(BYTES("FOWL KID MASH DEAD DUAL OAK"));
     printf("mistyped refused %u\n", (unsigned)typed.refusal);
-    typed = lift_read_reply(BYTES("FOWL KID MSAH DEAD DUAL OAF"));
+    typed = lift_read_reply(BYTES(misread));
+    printf("misread refused %u\n", (unsigned)typed.refusal);
     if (typed.refusal == LIFT_WORD_UNKNOWN)
-        printf("unknown refused %u word %u\n", (unsigned)typed.refusal, (unsigned)typed.place);
+        print_marked(misread, typed.marks);
 
     lift_bytes_of(made.password, key);
     printf("the eight bytes and back %d\n", lift_password_of(key) == made.password);

@@ -1,12 +1,14 @@
 """The two recorded scripts of the base, host/replay/base_a and base_b, in today's line format.
 
 They stay as they were recorded, with their answers, from a model that isn't ours. R-1 put the algorithm into some lines
-and answers, and made `sha1` a known name: what is recorded is put into that form here. With R-4 a table has no one line
-for all accounts any more; the scripts and this file go then.
+and answers, and made `sha1` a known name: what is recorded is put into that form here. R-2 made 31's place into marks: the
+recorded place has to be that of the first, and the others are our model's. With R-4 a table has no one line for all accounts
+any more; the scripts and this file go then.
 
 Where a challenge named sha1, which the base refused, another unknown name of the same length stands for it: 15 calls of the one script
 and 14 of the other.
 """
+import model
 from harness import ROOT, Failed
 
 # the calls that got an algorithm, and the word in front of which it stands
@@ -33,9 +35,19 @@ def account_today(shown):
     return f"{id}:1:{count}:{password}:{seed}"
 
 
+def marks_today(text, place):
+    """31's marks for a text in hex, of which the first was recorded by its place."""
+    marks = model.marks_of(bytes.fromhex(text).decode().upper().split())
+    if marks.find("1") + 1 != int(place):
+        raise Failed(f"{text}: {marks}, and the place that was recorded is {place}")
+    return marks
+
+
 def answer_today(line, answer):
     """The answer that was recorded to that call."""
     name, words = line.split(" ")[0], answer.split(" ")
+    if words[:2] == ["no", "31"]:
+        words[2] = marks_today(line.split(" ")[-1], words[2])
     if name == "chal" and words[0] == "ok":
         words.insert(1, "1")
     if name == "dump" and words[0] == "ok":

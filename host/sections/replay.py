@@ -1,6 +1,7 @@
 """The program `replay`: every call, through the proved crates as they are compiled."""
 import collections
 import itertools
+import random
 import subprocess
 
 import harness
@@ -8,6 +9,7 @@ import model
 import scripts
 from harness import ROOT, Failed, call
 from sections import recorded as base
+from sections import replies
 from sections.passwords import NO_CALLS
 
 PROGRAM = ROOT / "target" / "bin" / "replay"
@@ -25,19 +27,22 @@ def recorded(_driver):
 
 
 def tally(lines, answers):
-    """How often each answer was given, by number; and 21 by the call that gave it."""
+    """How often each answer was given, by number; 21, and 31 with two marks or more, by the call that gave it."""
     seen = collections.Counter()
     for line, answer in zip(lines, answers):
         name, words = line.split(" ")[0], answer.split(" ")
         seen[words[1] if words[0] == "no" else words[0]] += 1
         if words[:2] == ["no", "21"]:
             seen["21 by " + name] += 1
+        if words[:2] == ["no", "31"] and words[2].count("1") > 1:
+            seen["31 with two marks or more by " + name] += 1
     return seen
 
 
 def hold_to_numbers(seen):
-    """Fails if some number of document 01 was never given, or 21 by some call that is told an algorithm."""
-    wanted = [*map(str, scripts.NUMBERS), *("21 by " + name for name in scripts.TOLD)]
+    """Fails if some number of document 01 was never given, 21 by some call that is told an algorithm, or 31 with two marks by some reader."""
+    wanted = [*map(str, scripts.NUMBERS), *("21 by " + name for name in scripts.TOLD),
+              *("31 with two marks or more by " + name for name in scripts.READERS)]
     missing = [number for number in wanted if not seen[number]]
     if missing:
         raise Failed(f"never given: {', '.join(missing)}")
@@ -60,6 +65,20 @@ def stored(_driver):
     seen = tally(lines, answers)
     hold_to_numbers(seen)
     return f"{len(lines)} calls, every number of document 01: the stored answers are the model's"
+
+
+def misread(_driver):
+    """Each pattern of misread words as `read`, `reply` and `renew`: 31 keeps the turn, and the table stays as it was."""
+    head = [call("enrol", 1, model.MD5, 9, b"dog2", "0" * 16), "join 0 1", "dump"]
+    first = model.replay("\n".join(head))
+    lines, wanted = [*head], [*first]
+    for pattern, text in replies.patterns(random.Random(63), 2):
+        if "1" in pattern:
+            lines += [call("read", text), call("reply", 0, text), call("renew", 0, model.SHA1, 9, b"lift1", "0" * 16, text)]
+            wanted += [f"no 31 {pattern}"] * 3
+    lines, wanted = [*lines, "dump"], [*wanted, first[-1]]
+    harness.hold_to(lines, harness.asked(PROGRAM, lines), wanted)
+    return f"{len(lines) - len(head) - 1} calls: marked as the words were made, and the table as it was"
 
 
 def at_random(driver):

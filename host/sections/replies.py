@@ -1,4 +1,5 @@
 """Six words and hex: writing, and reading replies that people and lines damage."""
+import itertools
 import random
 
 import harness
@@ -46,13 +47,25 @@ def every_word(driver):
     return f"{len(lines)} texts read as the password they were made from"
 
 
-def some_case(rng, text):
-    """Letters in upper, lower or mixed case."""
-    turn = rng.choice([bytes.upper, bytes.lower, None])
-    if turn:
-        return turn(text)
+def upper(_rng, text):
+    return text.upper()
+
+
+def lower(_rng, text):
+    return text.lower()
+
+
+def mixed(rng, text):
     return bytes(byte ^ 0x20 if chr(byte).isalpha() and byte < 128 and rng.random() < 0.5
                  else byte for byte in text)
+
+
+CASES = [upper, lower, mixed]
+
+
+def some_case(rng, text):
+    """Letters in upper, lower or mixed case."""
+    return rng.choice(CASES)(rng, text)
 
 
 def blanks(rng, least):
@@ -98,7 +111,7 @@ def other_number_of_words(rng):
 
 
 def unknown_words(rng):
-    """One to six tokens of letters at random; the first unknown place is the answer."""
+    """One to six tokens of letters at random; all that are unknown are marked."""
     words = some_words(rng)
     for place in rng.sample(range(6), rng.randrange(1, 7)):
         words[place] = bytes(rng.choices(range(ord("A"), ord("Z") + 1), k=rng.randrange(1, 6)))
@@ -179,10 +192,51 @@ ODD = [b"", b" ", b"0x85c43ee03857765b", b"FOWL KID MASH DEAD DUAL 0", b"FOWLKID
 def answers_wanted(wanted):
     """The run is worth something only if every answer of the reader came up."""
     missing = {"no 30", "no 31", "no 32", "no 33"} - {answer[:5] for answer in wanted}
-    places = {answer for answer in wanted if answer.startswith("no 31")}
+    marks = {answer for answer in wanted if answer.startswith("no 31")}
     accepted = sum(answer.startswith("ok") for answer in wanted)
-    if missing or len(places) != 6 or accepted < 2000:
-        raise Failed(f"too little covered: {missing}, {places}, {accepted} accepted")
+    if missing or len(marks) != 63 or accepted < 2000:
+        raise Failed(f"too little covered: {missing}, {len(marks)} kinds of marks, {accepted} accepted")
+
+
+def known(rng):
+    return rng.choice(model.WORDS).encode()
+
+
+def unknown(rng):
+    """One to four letters that are no word."""
+    while True:
+        word = bytes(rng.choices(range(ord("A"), ord("Z") + 1), k=rng.randrange(1, 5)))
+        if word.decode() not in model.PLACE_OF:
+            return word
+
+
+def patterns(rng, count):
+    """Texts of each of the 64 patterns of known and unknown words, in upper, lower and mixed case."""
+    for pattern, case in itertools.product(map("".join, itertools.product("01", repeat=6)), CASES):
+        for _ in range(count):
+            words = [unknown(rng) if mark == "1" else known(rng) for mark in pattern]
+            yield pattern, case(rng, spaced(rng, words))
+
+
+def all_patterns(made):
+    """Fails if some pattern is missing in some case."""
+    kinds = {(pattern, text.isupper(), text.islower()) for pattern, text in made}
+    if len(kinds) != 64 * 3:
+        raise Failed(f"{len(kinds)} kinds of texts, not 64 patterns in three cases")
+
+
+def each_pattern(driver):
+    """What is marked is what was made so; where nothing was, the answer is the model's, and not 31."""
+    made = list(patterns(random.Random(64), 20))
+    all_patterns(made)
+    lines = [call("read", text) for _, text in made]
+    wanted = [f"no 31 {pattern}" if "1" in pattern else model.replay(line)[0] for (pattern, _), line in zip(made, lines)]
+    marked = sum(answer.startswith("no 31") for answer in wanted)
+    if marked != 63 * 3 * 20:
+        raise Failed(f"{marked} texts are marked, of which {63 * 3 * 20} were made so")
+    harness.hold_to(lines, model.replay("\n".join(lines)), wanted)
+    harness.hold_to(lines, harness.asked(driver, lines), wanted)
+    return f"{len(lines)} texts of 64 patterns in three cases, by driver and model: marked as they were made"
 
 
 def replies_at_random(driver):

@@ -1,6 +1,7 @@
 """That the comparison can fail: tests of the tests."""
 import collections
 import pathlib
+import random
 import sys
 
 import harness
@@ -9,7 +10,7 @@ import scripts
 import tidy
 from compare import claims
 from harness import Failed, call
-from sections import believed, challenges, commands, compared, docs, house, numbers, promises, refused, replay, terminal, tools
+from sections import believed, challenges, commands, compared, docs, house, numbers, promises, refused, replay, replies, terminal, tools
 
 sys.path.append(str(harness.ROOT / "bench"))
 
@@ -83,11 +84,16 @@ def without_each(check, whole):
 
 
 def coverage_can_fail(driver):
-    """A run in which some refusal never came, or no reply was accepted under some algorithm, is found; so is one with few challenges."""
-    numbers_given = [*map(str, scripts.NUMBERS), *(f"21 by {name}" for name in scripts.TOLD)]
+    """A run in which some refusal never came, or no reply was accepted under some algorithm, is found; so is one with few challenges, or without
+    some pattern of misread words."""
+    numbers_given = [*map(str, scripts.NUMBERS), *(f"21 by {name}" for name in scripts.TOLD),
+                     *(f"31 with two marks or more by {name}" for name in scripts.READERS)]
     accepted = [("reply", 1, 1), ("reply", 2, 2), ("renew", 1, 1), ("renew", 1, 2), ("renew", 2, 1), ("renew", 2, 2)]
+    made = list(replies.patterns(random.Random(64), 20))
     read = [f"ok {number} 1 10 1 12" for number in model.NAMES] * 2000 + [f"no {number}" for number in range(20, 26)]
     found = [*without_each(replay.hold_to_numbers, numbers_given), *without_each(replay.hold_to_algorithms, accepted),
+             not fails(replies.all_patterns, made), fails(replies.all_patterns, [(pattern, text.upper()) for pattern, text in made]),
+             *(fails(replies.all_patterns, [each for each in made if each[0] != gone]) for gone in ("000000", "101010")),
              not fails(challenges.enough, read), *(fails(challenges.enough, read[at:][:len(read) - 1]) for at in (0, 1))]
     if not all(found):
         raise Failed(f"of the {len(found)}, as they should be: {found}")

@@ -1,16 +1,18 @@
 -- The letter's first demand: bad input is refused by the number listed for it, and what a refusal changes. The conditions of the
 -- refusals are in `grounds`, Conditions.
 use Prim.Native.Nat.{ℕ, _≤_}
-use mathlib.Core.Path.{_≡_}
+use mathlib.Core.Path.{_≡_, refl, ap}
 use mathlib.Core.Logic.{_↔_}
 use mathlib.Core.Bool.{true, false, not}
-use mathlib.Core.List.{List, [], _∷_, _++_}
+use mathlib.Core.List.{List, [], _∷_, _++_, map}
 use lib.Dec.{ltb}
 use lib.ListN.{length}
 use Rattle.refusal.specs.declared.Refusal.{Refusal}
+use Rattle.refusal.specs.declared.Checked.{Checked}
 use Rattle.refusal.specs.declared.Reading.{Reading}
-use Rattle.refusal.specs.Numbers.{listingOf, checkedNumbers}
+use Rattle.refusal.specs.Numbers.{listingOf, checkedNumbers, readingNumbers}
 use Rattle.refusal.specs.Each.{Each}
+use Rattle.text.specs.Scan.{tokens}
 use Rattle.text.specs.Put.{writtenOf}
 use Rattle.block.specs.Digest.{digestOf}
 use Rattle.password.specs.declared.algorithm.Algorithm.{Algorithm}
@@ -19,12 +21,15 @@ use Rattle.password.specs.Password.{digestBy, generated}
 use Rattle.challenge.specs.Challenges.{challengeOf, textByNumber, challengeWritten}
 use Rattle.hex.specs.Hex.{hexOf, sixteenDigits, hexReading}
 use Rattle.sixwords.specs.Spelling.{wordsOf}
-use Rattle.reply.specs.Reply.{readingOf}
+use Rattle.reply.specs.Reply.{sixWords, upperText, readingOf}
+use Rattle.reply.specs.Marked.{Marked}
 use Rattle.cards.specs.Cards.{cardOf, cardWritten}
 use Rattle.cards.specs.Printed.{answerOf}
 use Rattle.accounts.specs.Rooms.{Room}
 use Rattle.accounts.specs.Accounts.{valuesChecked}
 use Rattle.table.specs.Table.{State}
+use Rattle.table.specs.Steps.{turnChecked, renewChecked}
+use Rattle.readback.specs.ReplyRefusals.{unknown-text, unknown-refused, marks-one}
 use Rattle.reached.specs.Calls.{Call, Answer, answer, numbers, after}
 use Rattle.reached.specs.InTurn.{Reached}
 use Rattle.grounds.specs.Listed.{isIn, listed, readNumber, writtenNumber, challengeNumber, Given}
@@ -51,7 +56,8 @@ use Rattle.grounds.specs.Exactly as Rows
 use Rattle.grounds.specs.Refusing as Refusing
 use Rattle.grounds.specs.RefusingCalls.{call-exactly}
 use Rattle.grounds.specs.CardProgram as CardProgram
-use Rattle.grounds.specs.Unchanged.{refused-unchanged, word-place}
+use Rattle.grounds.specs.Unchanged.{refused-unchanged}
+use Rattle.grounds.specs.HandedOn.{reply-hands-on, renew-hands-on}
 
 -- ---- the list
 
@@ -63,9 +69,41 @@ refusal-listed why = Rows.refusal-listed why
 pub listed-given : Each Given listed
 listed-given = numbers-given
 
--- 31 has the place of a word, 1 to 6.
-pub place-of-31 : (text : List ℕ) (place : ℕ) → readingOf text ≡ Reading.Refused (Refusal.WordUnknown place) → (1 ≤ place) × (place ≤ 6)
-place-of-31 text place e = word-place text place e
+-- ---- 31, by 02, R-2: "a mark for each of the six, set exactly where that word isn't in the dictionary"; it "is given exactly if at
+-- least one mark is set". (`reply` Marked says it of the number m: it is 1 to 63, and for k from 1 to 6 bit k - 1 is set exactly where
+-- word k isn't in the dictionary; the words are taken in upper case, so either case will do.)
+pub marks-of-31 : (text : List ℕ) (m : ℕ)
+    → (readingOf text ≡ Reading.Refused (Refusal.WordUnknown m))
+    ↔ ((length text ≤ 128) × (sixWords (tokens text) ≡ true) × Marked (map upperText (tokens text)) m)
+marks-of-31 text m = (
+  λ e. let six = unknown-text text m e in (six .0, six .1, unknown-refused text (six .0) (six .1) m .0 e),
+  λ h. unknown-refused text (h .0) (h .1) m .1 (h .2),
+)
+
+-- They are 1 to 63, and one number.
+pub marks-1-to-63 : (text : List ℕ) (m : ℕ) → readingOf text ≡ Reading.Refused (Refusal.WordUnknown m) → (1 ≤ m) × (m ≤ 63)
+marks-1-to-63 text m e = let marked = marks-of-31 text m .0 e .2 in (marked .some-set, marked .of-six)
+
+pub marks-are-one : (text : List ℕ) → length text ≤ 128 → sixWords (tokens text) ≡ true → (m n : ℕ)
+    → Marked (map upperText (tokens text)) m → Marked (map upperText (tokens text)) n → m ≡ n
+marks-are-one text h e m n f g = marks-one text h e m n f g
+
+-- "Every caller up to the panel passes it on". What C and the programs are told of an answer has the marks beside 31; the panel's
+-- promise is stated with these numbers.
+pub numbers-of-31 : (text : List ℕ) (m : ℕ) → readingOf text ≡ Reading.Refused (Refusal.WordUnknown m)
+    → readingNumbers (readingOf text) ≡ (record { 0 = 31; 1 = m }, 0)
+numbers-of-31 text m e = ap readingNumbers e
+
+-- Behind their checks, and only there, Reply and Renew answer with the marks of the text.
+pub reply-passes-marks-on : (port : ℕ) (text : List ℕ) (s : State) (m : ℕ)
+    → (answer (Call.Reply port text) s ≡ Answer.Refused (Refusal.WordUnknown m))
+    ↔ ((turnChecked port s ≡ Checked.Good) × (readingOf text ≡ Reading.Refused (Refusal.WordUnknown m)))
+reply-passes-marks-on port text s m = reply-hands-on (Refusal.WordUnknown m) refl refl port text s
+
+pub renew-passes-marks-on : (port number count : ℕ) (seed new text : List ℕ) (s : State) (m : ℕ)
+    → (answer (Call.Renew port number count seed new text) s ≡ Answer.Refused (Refusal.WordUnknown m))
+    ↔ ((renewChecked port number count seed s ≡ Checked.Good) × (readingOf text ≡ Reading.Refused (Refusal.WordUnknown m)))
+renew-passes-marks-on port number count seed new text s m = renew-hands-on (Refusal.WordUnknown m) refl refl port number count seed new text s
 
 -- ---- "Bad input is refused by the number listed for it": for every input of each function, the number is the answer exactly if its
 -- condition holds and those before it don't, in the order of the checks, and there is no refusal exactly if none holds.

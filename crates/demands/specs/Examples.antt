@@ -17,7 +17,7 @@ use Rattle.password.specs.Algorithm.{algorithmName}
 use Rattle.challenge.specs.Challenges.{opening, tokenAt, nextAt, countAt, seedAt, challengeOf, challengeNumbers, seedOf}
 use Rattle.text.specs.Tests.{same}
 use Rattle.hex.specs.Hex.{sixteenDigits, hexReading}
-use Rattle.reply.specs.Reply.{isWord, sixWords, foundAfter, readingOf}
+use Rattle.reply.specs.Reply.{isWord, sixWords, marksOf, foundReading, readingOf}
 
 -- What an example asks for: the places of a number, its pair sum, what a challenge says, or a reply.
 pub data Asked : Type 0 where
@@ -79,6 +79,6 @@ examples =
 
 pub examples-hold : map (λ (e : Asked × Said). said (e .0)) examples ≡ map (λ (e : Asked × Said). e .1) examples
 unfolding codes runOf Digits.numberAfter every plain isCount opening algorithmName same tokenAt nextAt countAt seedAt challengeOf
-    readingOf sixWords isWord foundAfter sixteenDigits hexReading parted unspaced wordsIn lines words flatten standsFrom placeOf
+    readingOf sixWords isWord marksOf foundReading sixteenDigits hexReading parted unspaced wordsIn lines words flatten standsFrom placeOf
     pairs pairSum whole cut placesOf joined allPlaces numberOf
 examples-hold = refl

@@ -1,5 +1,6 @@
 -- The word at a place of the dictionary and the place of a word in it; then the same of words packed into numbers.
-use Prim.Native.Nat.{ℕ, suc, _+_, _*_, _-_, _/_, _%_, _^_}
+use Prim.Native.Nat.{ℕ, suc, _+_, _*_, _-_, _/_, _%_, _^_, _<_}
+use mathlib.Core.Path.{_≡_}
 use mathlib.Core.Bool.{cond}
 use mathlib.Core.List.{List, [], _∷_, map}
 use lib.Dec.{eqb, ltb}
@@ -20,6 +21,10 @@ standsFrom i w (v ∷ vs) = cond (same w v) (Found.At i) (standsFrom (suc i) w v
 -- the place of a word, if it is in the dictionary
 unfoldable pub placeOf : List ℕ → Found
 placeOf w = standsFrom 0 w words
+
+-- a word that stands at no place
+abbrev pub Unknown : List ℕ → Type 0
+Unknown w = (i : ℕ) → i < 2048 → wordAt i ≡ w → ⊥
 
 -- ---- packed words, in which the table of the code is
 

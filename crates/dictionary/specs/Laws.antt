@@ -15,7 +15,20 @@ use Rattle.dictionary.specs.declared.Found.{Found}
 use Rattle.text.specs.Quoted.{codes}
 use Rattle.text.specs.Tests.{same, same-equal, same-self, cases}
 use Rattle.dictionary.specs.Words.{wordsIn, lines, words}
-use Rattle.dictionary.specs.Dictionary.{numberFrom, packed, unfilled, lettersOf, dictionary, wordAt, packedAt, placeFrom, foundOf, standsFrom, placeOf}
+use Rattle.dictionary.specs.Dictionary.{
+  numberFrom,
+  packed,
+  unfilled,
+  lettersOf,
+  dictionary,
+  wordAt,
+  packedAt,
+  placeFrom,
+  foundOf,
+  standsFrom,
+  placeOf,
+  Unknown,
+}
 use Rattle.dictionary.specs.Runs.{TwoRuns}
 use Rattle.dictionary.specs.Order.{both, each, each-at, rising, rising-at, inOrder, inOrder-at}
 
@@ -292,16 +305,16 @@ found-word w s i = (there, found)
     found h = sym (place-packed w s) ∙ ap foundOf (ap packed (sym (h .1)) ∙ sym (packed-at i)) ∙ at-place i (h .0)
 
 -- and is not found exactly if it stands nowhere
-pub unknown-word : (w : List ℕ) → Spelt w → (placeOf w ≡ Found.Nothing) ↔ ((i : ℕ) → i < 2048 → wordAt i ≡ w → ⊥)
+pub unknown-word : (w : List ℕ) → Spelt w → (placeOf w ≡ Found.Nothing) ↔ Unknown w
 unknown-word w s = (nowhere, unknown)
   where
-    nowhere : placeOf w ≡ Found.Nothing → (i : ℕ) → i < 2048 → wordAt i ≡ w → ⊥
+    nowhere : placeOf w ≡ Found.Nothing → Unknown w
     nowhere e i h f =
         let there = found-word w s i .1 (h, f) in
         let z : _≡_ {A = ℕ} 0 1 = cc in
         omega arith
 
-    unknown : ((i : ℕ) → i < 2048 → wordAt i ≡ w → ⊥) → placeOf w ≡ Found.Nothing
+    unknown : Unknown w → placeOf w ≡ Found.Nothing
     unknown f =
         sym (place-packed w s) ∙ no-place (packed w)
         (λ i h e. f i h (packed-injective (wordAt i) w (word-spelt i h) s (sym (packed-at i) ∙ e)))

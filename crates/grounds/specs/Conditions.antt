@@ -19,7 +19,7 @@ use Rattle.dictionary.specs.declared.Found.{Found}
 use Rattle.dictionary.specs.Dictionary.{placeOf}
 use Rattle.sixwords.specs.Places.{pairSum, joined}
 use Rattle.hex.specs.Hex.{sixteenDigits}
-use Rattle.reply.specs.Reply.{sixWords, upperText, readingOf}
+use Rattle.reply.specs.Reply.{sixWords, upperText, placeIn, readingOf}
 use Rattle.challenge.specs.Challenges.{opening, tokenAt, endOf, countAt, seedAt, terminated, challengeOf}
 use Rattle.cards.specs.CardChecks.{countOf}
 use Rattle.cards.specs.Cards.{cardOf}
@@ -85,17 +85,13 @@ challengeRows text =
     ++ seedRows (tokenAt text (seedAt text))
     ++ (25, not (terminated (drop (endOf text (seedAt text)) text))) ∷ []
 
--- Where the tokens of a text stand in the dictionary, in either case; whether one does, and at which place.
+-- Where the tokens of a text stand in the dictionary, in either case; whether one does.
 abbrev pub placesFound : List ℕ → List Found
 placesFound text = map placeOf (map upperText (tokens text))
 
 abbrev pub isKnown : Found → Bool
 isKnown (Found.At place) = true
 isKnown Found.Nothing = false
-
-abbrev pub placeIn : Found → ℕ
-placeIn (Found.At place) = place
-placeIn Found.Nothing = 0
 
 -- "the sum modulo 4 is put after the 64 bits as two bits": so it is in the 66 bits of these places.
 abbrev pub sumRight : List ℕ → Bool

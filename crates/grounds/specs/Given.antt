@@ -25,7 +25,7 @@ use Rattle.challenge.specs.Challenges.{opening, tokenAt, nextAt, countAt, seedA
 use Rattle.text.specs.Tests.{same}
 use Rattle.hex.specs.Hex.{hexOf}
 use Rattle.hex.specs.Hex.{sixteenDigits, hexReading}
-use Rattle.reply.specs.Reply.{isWord, sixWords, foundAfter, readingOf}
+use Rattle.reply.specs.Reply.{isWord, sixWords, marksOf, foundReading, readingOf}
 use Rattle.cards.specs.CardChecks.{cardChecked}
 use Rattle.cards.specs.Cards.{cardWritten}
 use Rattle.line.specs.Line.{some, joined, others, turnWithout, without}
@@ -87,7 +87,7 @@ challenge-given = (
 
 -- 30 to 33: the reply's reader
 reply-given : Each Given (30 ∷ 31 ∷ 32 ∷ 33 ∷ [])
-unfolding readingOf sixWords isWord foundAfter sixteenDigits hexReading every parted unspaced Digits.numberAfter codes wordsIn
+unfolding readingOf sixWords isWord marksOf foundReading sixteenDigits hexReading every parted unspaced Digits.numberAfter codes wordsIn
     lines words flatten same Dictionary.standsFrom Dictionary.placeOf pairs pairSum Places.joined allPlaces numberOf
 reply-given = (
   Given.reply (replicate 129 97) refl,

@@ -18,6 +18,7 @@ pub mod RefusingCalls
 pub mod CardProgram
 pub mod Unchanged
 pub mod Never
+pub mod HandedOn
 pub mod WrongReplies
 pub mod Full
 pub mod WithoutAccounts

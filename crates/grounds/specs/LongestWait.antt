@@ -58,7 +58,7 @@ front-ticks (suc n) (c ∷ early) late e =
 
 too-soon : (algorithm : Algorithm) (n : ℕ) → n ≤ 179 → hasTurnAfter algorithm n ≡ true → ⊥
 too-soon algorithm n h e =
-    let each = every-at (λ n. not (hasTurnAfter algorithm n)) (upTo 180 (λ n. n)) (waits-180-ticks algorithm .0) n
+    let each = every-at (λ n. not (hasTurnAfter algorithm n)) (upTo 180 (λ n. n)) 0 (waits-180-ticks algorithm .0) n
     (rw (length-upTo 180 (λ n. n)) (suc-le-suc h)) in
     let none = rw (getD-upTo 180 (λ n. n) n (suc-le-suc h)) at each in
     true≢false (sym e ∙ not-true (hasTurnAfter algorithm n) none)

@@ -5,16 +5,20 @@ use mathlib.Core.Path.{_≡_, sym, ap, _∙_}
 use mathlib.Core.Bool.{Bool, true, false, true≢false, cond, not, _&&_}
 use mathlib.Core.List.{List, [], _∷_, map}
 use borrow.Author.Tests.{not-true}
-use lib.Dec.{leb}
+use lib.Dec.{leb, ltb}
 use lib.ListN.{length}
 use Rattle.refusal.specs.declared.Refusal.{Refusal}
 use Rattle.refusal.specs.declared.Checked.{Checked}
 use Rattle.refusal.specs.Numbers.{listingOf}
 use Rattle.refusal.specs.Checks.{must, unless, inOrder}
-use Rattle.text.specs.Tests.{both}
+use Rattle.text.specs.Kinds.{lowerOf}
+use Rattle.text.specs.Tests.{both, same}
 use Rattle.password.specs.declared.algorithm.Named.{Named}
-use Rattle.password.specs.Algorithm.{algorithmChecked}
+use Rattle.password.specs.Algorithm.{numbered, algorithmChecked}
 use Rattle.password.specs.PhraseAndSeed.{plain, seedChecked}
+use Rattle.line.specs.Line.{standsIn}
+use Rattle.table.specs.Table.{State, isThere, accountOf, hasTurn, turnId}
+use Rattle.table.specs.Steps.{turnChecked, renewChecked}
 use Rattle.grounds.specs.Listed.{isIn}
 
 -- A check: a test with its refusal, or that of an algorithm or of a seed.
@@ -38,6 +42,17 @@ others numbers (Test.test t w ∷ rows) = other numbers w && others numbers rows
 others numbers (Test.ofAlgorithm found ∷ rows) = other numbers Refusal.AlgorithmUnknown && others numbers rows
 others numbers (Test.ofSeed text ∷ rows) = other numbers Refusal.SeedLength && (other numbers Refusal.SeedCharacter && others numbers rows)
 
+-- The checks of the port that has the turn, and those of a renewal's new values.
+abbrev pub turnTests : ℕ → State → List Test
+turnTests port s =
+    test (leb port 3) Refusal.PortUnknown ∷ test (standsIn port (s .line)) Refusal.PortNotInLine ∷ test (hasTurn port s) Refusal.PortNotInFront
+    ∷ test (isThere (turnId s) s) Refusal.AccountMissing ∷ test (ltb 1 (accountOf (turnId s) s .count)) Refusal.AccountUsedUp ∷ []
+
+abbrev pub valuesTests : ℕ → ℕ → List ℕ → State → List Test
+valuesTests number count seed s =
+    test (leb 2 count && leb count 9999) Refusal.CountOutside ∷ ofAlgorithm (numbered number) ∷ ofSeed seed
+    ∷ test (not (same (map lowerOf seed) (accountOf (turnId s) s .seed))) Refusal.SeedSame ∷ []
+
 module _ (numbers : List ℕ) (why : Refusal) (own : isIn (listingOf why .0) numbers ≡ true) where
   abbrev pub Never : Checked → Type 0
   Never check = check ≡ Checked.Refused why → ⊥
@@ -50,7 +65,7 @@ module _ (numbers : List ℕ) (why : Refusal) (own : isIn (listingOf why .0) num
       let same : w ≡ why = cc in
       true≢false (sym own ∙ ap (λ (x : Refusal). isIn (listingOf x .0) numbers) (sym same) ∙ not-true (isIn (listingOf w .0) numbers) h)
 
-  pub then-never : (check next : Checked) → Never check → Never next → Never (unless Checked.Refused check next)
+  then-never : (check next : Checked) → Never check → Never next → Never (unless Checked.Refused check next)
   then-never Checked.Good next h k = k
   then-never (Checked.Refused w) next h k = h
 
@@ -82,3 +97,16 @@ module _ (numbers : List ℕ) (why : Refusal) (own : isIn (listingOf why .0) num
       let first = both (other numbers Refusal.SeedLength) (other numbers Refusal.SeedCharacter && others numbers rows) h in
       let second = both (other numbers Refusal.SeedCharacter) (others numbers rows) (first .1) in
       then-never (seedChecked text) (inOrder (map checkOf rows)) (seed-never text (first .0) (second .0)) (rows-never rows (second .1))
+
+  -- ---- the checks of a turn and of a renewal
+
+  pub turn-never : (port : ℕ) (s : State) → others numbers (turnTests port s) ≡ true → Never (turnChecked port s)
+  unfolding turnChecked
+  turn-never port s h = rows-never (turnTests port s) h
+
+  pub renew-never : (port number count : ℕ) (seed : List ℕ) (s : State) → others numbers (turnTests port s) ≡ true
+      → others numbers (valuesTests number count seed s) ≡ true → Never (renewChecked port number count seed s)
+  unfolding renewChecked
+  renew-never port number count seed s h k =
+      then-never (turnChecked port s) (inOrder (map checkOf (valuesTests number count seed s))) (turn-never port s h)
+      (rows-never (valuesTests number count seed s) k)

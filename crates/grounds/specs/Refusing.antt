@@ -1,12 +1,12 @@
 -- The refusals of the checks, the readers and the writers go by their rows.
-use Prim.Native.Nat.{ℕ, suc, _/_}
+use Prim.Native.Nat.{ℕ, _+_, _*_, _/_}
+use native.Mathlib.Omega.{arith}
 use mathlib.Core.Path.{_≡_, refl, sym, ap, ap₂, _∙_}
 use mathlib.Core.Bool.{Bool, true, false, false≢true, cond, not, _&&_, _||_, Bool·not-not}
-use mathlib.Core.List.{List, [], _∷_, _++_, map, append-nil}
-use borrow.Author.Tests.{lt-ltb, le-ltb, leb-true, leb-false}
+use mathlib.Core.List.{List, [], _∷_, _++_, map}
+use borrow.Author.Tests.{lt-ltb, le-ltb, ltb-true, ltb-false, leb-true, leb-false}
 use lib.Dec.{eqb, leb, ltb}
 use lib.ListN.{length, take, drop}
-use lib.Seq.{append-snoc}
 use Rattle.refusal.specs.declared.Refusal.{Refusal}
 use Rattle.refusal.specs.declared.Checked.{Checked}
 use Rattle.refusal.specs.declared.Reading.{Reading}
@@ -30,7 +30,7 @@ use Rattle.dictionary.specs.Laws.{found-word}
 use Rattle.sixwords.specs.declared.Number.{Number}
 use Rattle.sixwords.specs.Places.{joined, allPlaces, numberOf as placesNumber}
 use Rattle.hex.specs.Hex.{sixteenDigits, hexReading}
-use Rattle.reply.specs.Reply.{isWord, sixWords, upperText, summed, foundAfter, readingOf}
+use Rattle.reply.specs.Reply.{isWord, sixWords, upperText, summed, marksOf, placeIn, foundReading, readingOf}
 use Rattle.reply.specs.Laws.{spelt-token, six-parts}
 use Rattle.challenge.specs.declared.reading.Challenge.{Challenge}
 use Rattle.challenge.specs.Challenges.{
@@ -63,7 +63,6 @@ use Rattle.grounds.specs.Conditions.{
   challengeRows,
   placesFound,
   isKnown,
-  placeIn,
   sumRight,
   wordsKnown,
   wordsRight,
@@ -265,18 +264,32 @@ card-exactly phrase challenge k room =
 
 -- ---- a reply
 
+doubled : (m : ℕ) → ltb 0 (0 + 2 * m) ≡ ltb 0 m
+doubled m =
+    cases (ltb 0 m) (λ t. lt-ltb 0 (0 + 2 * m) (omega (arith, ltb-true 0 m t)) ∙ sym t)
+    (λ t. le-ltb 0 (0 + 2 * m) (omega (arith, ltb-false 0 m t)) ∙ sym t)
+
+-- Some mark is set unless each word is known.
+some-marked : (found : List Found) → ltb 0 (marksOf found) ≡ not (every isKnown found)
+unfolding marksOf every
+some-marked [] = refl
+some-marked (Found.At i ∷ found) = doubled (marksOf found) ∙ some-marked found
+some-marked (Found.Nothing ∷ found) = lt-ltb 0 (1 + 2 * marksOf found) (omega arith)
+
 -- Words that are looked up: 31 unless each is known, and then the sum.
-found-first : (k : ℕ) (known : List ℕ) (found : List Found) (rest : ℕ)
-    → unless listedAs (readChecked (foundAfter k known found)) rest
-    ≡ cond (not (every isKnown found)) 31 (unless listedAs (readChecked (summed (placesNumber (known ++ map placeIn found)))) rest)
-unfolding foundAfter every
-found-first k known [] rest =
-    ap (λ (l : List ℕ). unless listedAs (readChecked (summed (placesNumber l))) rest) (sym (append-nil known))
-found-first k known (Found.At i ∷ found) rest =
-    found-first (suc k) (known ++ i ∷ []) found rest
-    ∙ ap (λ (l : List ℕ). cond (not (every isKnown found)) 31 (unless listedAs (readChecked (summed (placesNumber l))) rest))
-    (append-snoc known i (map placeIn found))
-found-first k known (Found.Nothing ∷ found) rest = refl
+found-first : (found : List Found) (rest : ℕ)
+    → unless listedAs (readChecked (foundReading found)) rest
+    ≡ cond (not (every isKnown found)) 31 (unless listedAs (readChecked (summed (placesNumber (map placeIn found)))) rest)
+unfolding foundReading
+found-first found rest =
+    go (ltb 0 (marksOf found))
+    ∙ ap (λ (b : Bool). cond b 31 (unless listedAs (readChecked (summed (placesNumber (map placeIn found)))) rest)) (some-marked found)
+  where
+    go : (b : Bool)
+        → unless listedAs (readChecked (cond b (Reading.Refused (Refusal.WordUnknown (marksOf found))) (summed (placesNumber (map placeIn found))))) rest
+        ≡ cond b 31 (unless listedAs (readChecked (summed (placesNumber (map placeIn found)))) rest)
+    go true = refl
+    go false = refl
 
 sum-first : (s : List ℕ) (rest : ℕ) → allPlaces s ≡ true
     → unless listedAs (readChecked (summed (placesNumber s))) rest ≡ cond (not (sumRight s)) 32 rest
@@ -308,9 +321,9 @@ known-places (t ∷ ts) g k =
     go Found.Nothing e h = absurd (false≢true h)
 
 words-first : (text : List ℕ) (rest : ℕ) → sixWords (tokens text) ≡ true
-    → unless listedAs (readChecked (foundAfter 1 [] (placesFound text))) rest
+    → unless listedAs (readChecked (foundReading (placesFound text))) rest
     ≡ cond (not (wordsKnown text)) 31 (cond (wordsKnown text && not (wordsRight text)) 32 rest)
-words-first text rest e = found-first 1 [] (placesFound text) rest ∙ go (wordsKnown text) refl
+words-first text rest e = found-first (placesFound text) rest ∙ go (wordsKnown text) refl
   where
     go : (k : Bool) → wordsKnown text ≡ k
         → cond (not k) 31 (unless listedAs (readChecked (summed (placesNumber (map placeIn (placesFound text))))) rest)
@@ -337,7 +350,7 @@ reply-rows text rest = go (ltb 128 (length text)) (sixWords (tokens text)) refl
   where
     go : (a b : Bool) → sixWords (tokens text) ≡ b
         → unless listedAs (readChecked (cond a (Reading.Refused Refusal.ReplyLong)
-        (cond b (foundAfter 1 [] (placesFound text)) (hexReading (unspaced text))))) rest
+        (cond b (foundReading (placesFound text)) (hexReading (unspaced text))))) rest
         ≡ cond a 30
         (cond (b && not (wordsKnown text)) 31
         (cond (b && wordsKnown text && not (wordsRight text)) 32

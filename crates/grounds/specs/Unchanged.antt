@@ -1,27 +1,17 @@
--- A refusal changes no table, except 61 and 62; and the place that 31 carries is 1 to 6.
-use Prim.Native.Nat.{ℕ, suc, _+_, _≤_, _<_}
+-- A refusal changes no table, except 61 and 62.
+use Prim.Native.Nat.{ℕ, _+_}
 use native.Mathlib.Omega.{arith}
 use mathlib.Core.Path.{_≡_, refl, sym, ap, _∙_}
 use mathlib.Core.Bool.{Bool, true, false, true≢false, cond}
-use mathlib.Core.List.{List, [], _∷_, _++_, map}
-use borrow.Author.Tests.{eqb-true}
-use lib.Dec.{eqb, leb, ltb}
-use lib.ListN.{length, length-map}
+use mathlib.Core.List.{[], _∷_}
+use lib.Dec.{eqb, leb}
 use Rattle.refusal.specs.declared.Refusal.{Refusal}
 use Rattle.refusal.specs.declared.Checked.{Checked}
 use Rattle.refusal.specs.declared.Reading.{Reading}
 use Rattle.refusal.specs.Numbers.{listingOf}
 use Rattle.refusal.specs.Checks.{unless}
-use Rattle.text.specs.Tests.{every, both}
-use Rattle.text.specs.Digits.{numberOf}
-use Rattle.text.specs.Scan.{tokens, unspaced}
 use Rattle.password.specs.Password.{bytesOf, hash}
-use Rattle.dictionary.specs.declared.Found.{Found}
-use Rattle.dictionary.specs.Dictionary.{placeOf}
-use Rattle.sixwords.specs.declared.Number.{Number}
-use Rattle.sixwords.specs.Places.{numberOf as placesNumber}
-use Rattle.hex.specs.Hex.{sixteenDigits, hexReading}
-use Rattle.reply.specs.Reply.{isWord, sixWords, upperText, summed, foundAfter, readingOf}
+use Rattle.reply.specs.Reply.{readingOf}
 use Rattle.table.specs.declared.Replied.{Replied}
 use Rattle.accounts.specs.Rooms.{Room}
 use Rattle.table.specs.Table.{State, accountOf, portOf, turnId}
@@ -43,26 +33,26 @@ module _ (why : Refusal) (other : isIn (listingOf why .0) (61 ∷ 62 ∷ []) ≡
       let same : w ≡ why = cc in
       true≢false (sym h ∙ ap (λ (x : Refusal). isIn (listingOf x .0) (61 ∷ 62 ∷ [])) same ∙ other)
 
-  offered-unchanged : (port w : ℕ) (next : Room) (s : State)
-      → repliedAnswer (offered port w next s .answer) ≡ Answer.Refused why → offered port w next s .state ≡ s
+  -- a password that is offered is refused with 61 and 62 alone
+  pub offered-other : (port w : ℕ) (next : Room) (s : State) → repliedAnswer (offered port w next s .answer) ≡ Answer.Refused why → ⊥
   unfolding offered
-  offered-unchanged port w next s e =
+  offered-other port w next s e =
       go (eqb (hash (accountOf (turnId s) s .algorithm) (bytesOf w)) (accountOf (turnId s) s .password)) (leb 3 (portOf port s .wrong + 1)) refl e
     where
       go : (t u : Bool) → leb 3 (portOf port s .wrong + 1) ≡ u
           → repliedAnswer (cond t (Steps.accepted port next s) (Steps.rejected port s) .answer) ≡ Answer.Refused why
-          → cond t (Steps.accepted port next s) (Steps.rejected port s) .state ≡ s
-      go true u f e = let z : _≡_ {A = ℕ} 0 1 = cc in absurd (omega arith)
-      go false true f e = absurd (wrong-is Refusal.ReplyWrongThird refl (rw f at e))
-      go false false f e = absurd (wrong-is Refusal.ReplyWrong refl (rw f at e))
+          → ⊥
+      go true u f e = let z : _≡_ {A = ℕ} 0 1 = cc in omega arith
+      go false true f e = wrong-is Refusal.ReplyWrongThird refl (rw f at e)
+      go false false f e = wrong-is Refusal.ReplyWrong refl (rw f at e)
 
   replied-unchanged : (s : State) (check : Checked) (r : Reading) (next : ℕ → After Replied)
-      → ((w : ℕ) → repliedAnswer (next w .answer) ≡ Answer.Refused why → next w .state ≡ s)
+      → ((w : ℕ) → repliedAnswer (next w .answer) ≡ Answer.Refused why → ⊥)
       → repliedAnswer (unless (replyRefused s) check (read s r next) .answer) ≡ Answer.Refused why
       → unless (replyRefused s) check (read s r next) .state ≡ s
   replied-unchanged s (Checked.Refused w) r next k e = refl
   replied-unchanged s Checked.Good (Reading.Refused w) next k e = refl
-  replied-unchanged s Checked.Good (Reading.Password w) next k e = k w e
+  replied-unchanged s Checked.Good (Reading.Password w) next k e = absurd (k w e)
 
   pub refused-unchanged : (c : Call) (s : State) → answer c s ≡ Answer.Refused why → after c s ≡ s
   unfolding Steps.enrol Steps.remove Steps.join Steps.leave Steps.reply Steps.replyRead Steps.renew Steps.renewRead
@@ -73,42 +63,8 @@ module _ (why : Refusal) (other : isIn (listingOf why .0) (61 ∷ 62 ∷ []) ≡
   refused-unchanged (Call.Challenge port room) s e = refl
   refused-unchanged (Call.Reply port text) s e =
       replied-unchanged s (turnChecked port s) (readingOf text) _
-      (λ w. offered-unchanged port w (lowered (accountOf (turnId s) s) w) s) e
+      (λ w. offered-other port w (lowered (accountOf (turnId s) s) w) s) e
   refused-unchanged (Call.Renew port number count seed new text) s e =
       replied-unchanged s (renewChecked port number count seed s) (readingOf text) _
-      (λ w. offered-unchanged port w (newRoom (accountOf (turnId s) s .id) number count seed new) s) e
+      (λ w. offered-other port w (newRoom (accountOf (turnId s) s .id) number count seed new) s) e
   refused-unchanged Call.Tick s e = let z : _≡_ {A = ℕ} 0 1 = cc in absurd (omega arith)
-
--- ---- 31's place
-
-found-place : (k : ℕ) (known : List ℕ) (found : List Found) (j : ℕ) → foundAfter k known found ≡ Reading.Refused (Refusal.WordUnknown j)
-    → (k ≤ j) × (j < k + length found)
-unfolding foundAfter
-found-place k known [] j e = absurd (none (placesNumber known) e)
-  where
-    none : (n : Number) → summed n ≡ Reading.Refused (Refusal.WordUnknown j) → ⊥
-    none (Number.Is p) e = let z : _≡_ {A = ℕ} 0 1 = cc in omega arith
-    none Number.SumWrong e = let z : _≡_ {A = ℕ} 0 1 = cc in omega arith
-found-place k known (Found.At i ∷ found) j e =
-    let later = found-place (suc k) (known ++ i ∷ []) found j e in
-    omega (arith, later .0, later .1)
-found-place k known (Found.Nothing ∷ found) j e = let here : k ≡ j = cc in (omega arith, omega arith)
-
-pub word-place : (text : List ℕ) (j : ℕ) → readingOf text ≡ Reading.Refused (Refusal.WordUnknown j) → (1 ≤ j) × (j ≤ 6)
-unfolding readingOf hexReading sixWords
-word-place text j e = go (ltb 128 (length text)) (sixWords (tokens text)) (sixteenDigits (unspaced text)) refl e
-  where
-    go : (a b c : Bool) → sixWords (tokens text) ≡ b
-        → cond a (Reading.Refused Refusal.ReplyLong)
-        (cond b (foundAfter 1 [] (map placeOf (map upperText (tokens text))))
-        (cond c (Reading.Password (numberOf 16 (unspaced text))) (Reading.Refused Refusal.ReplyUnread)))
-        ≡ Reading.Refused (Refusal.WordUnknown j)
-        → (1 ≤ j) × (j ≤ 6)
-    go true b c f e = let z : _≡_ {A = ℕ} 0 1 = cc in absurd (omega arith)
-    go false true c f e =
-        let place = found-place 1 [] (map placeOf (map upperText (tokens text))) j e in
-        let count = length-map (map upperText (tokens text)) placeOf ∙ length-map (tokens text) upperText in
-        let six = eqb-true (length (tokens text)) 6 (both (eqb (length (tokens text)) 6) (every isWord (tokens text)) f .0) in
-        omega (arith, place .0, place .1)
-    go false false true f e = let z : _≡_ {A = ℕ} 0 1 = cc in absurd (omega arith)
-    go false false false f e = let z : _≡_ {A = ℕ} 0 1 = cc in absurd (omega arith)

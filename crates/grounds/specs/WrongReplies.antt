@@ -13,7 +13,6 @@ use Rattle.refusal.specs.declared.Reading.{Reading}
 use Rattle.refusal.specs.declared.Written.{Written}
 use Rattle.refusal.specs.Numbers.{listingOf}
 use Rattle.refusal.specs.Checks.{unless, inOrder}
-use Rattle.text.specs.Kinds.{lowerOf}
 use Rattle.text.specs.Tests.{every, same}
 use Rattle.password.specs.PhraseAndSeed.{seedChecked}
 use Rattle.password.specs.Algorithm.{numbered}
@@ -24,7 +23,7 @@ use Rattle.line.specs.Line.{standsIn}
 use Rattle.port.specs.Port.{wrongAnswer}
 use Rattle.accounts.specs.Rooms.{Room, holds}
 use Rattle.accounts.specs.Accounts.{lowered, newRoom}
-use Rattle.table.specs.Table.{State, isThere, accountOf, portOf, hasTurn, turnId}
+use Rattle.table.specs.Table.{State, isThere, accountOf, portOf, turnId}
 use Rattle.table.specs.TableChecks.{accountThere}
 use Rattle.table.specs.Steps as Steps
 use Rattle.table.specs.Steps.{refused, replyRefused, done, enrolChecked, joinChecked, leaveChecked, turnChecked, renewChecked, offered, read}
@@ -34,7 +33,21 @@ use Rattle.grounds.specs.Listed.{isIn, readNumber}
 use Rattle.grounds.specs.Conditions.{Row, FirstHolds, replyRows}
 use Rattle.grounds.specs.Exactly.{first-at-most}
 use Rattle.grounds.specs.Refusing.{reply-exactly}
-use Rattle.grounds.specs.Never.{Test, test, ofAlgorithm, ofSeed, checkOf, others, Never, other-never, then-never, test-never, seed-never, rows-never}
+use Rattle.grounds.specs.Never.{
+  Test,
+  test,
+  ofAlgorithm,
+  ofSeed,
+  checkOf,
+  others,
+  Never,
+  other-never,
+  test-never,
+  seed-never,
+  rows-never,
+  turn-never,
+  renew-never,
+}
 
 to-33 : (text : List ℕ) (n : ℕ) → FirstHolds n (replyRows text) → n ≤ 33
 unfolding every
@@ -59,18 +72,10 @@ module _ (why : Refusal) (wrong : isIn (listingOf why .0) (61 ∷ 62 ∷ []) ≡
   checks-other = rows-never (61 ∷ 62 ∷ []) why wrong
 
   turn-other : (port : ℕ) (s : State) → Other (turnChecked port s)
-  unfolding turnChecked
-  turn-other port s =
-      checks-other (test (leb port 3) Refusal.PortUnknown ∷ test (standsIn port (s .line)) Refusal.PortNotInLine
-      ∷ test (hasTurn port s) Refusal.PortNotInFront ∷ test (isThere (turnId s) s) Refusal.AccountMissing
-      ∷ test (ltb 1 (accountOf (turnId s) s .count)) Refusal.AccountUsedUp ∷ []) refl
+  turn-other port s = turn-never (61 ∷ 62 ∷ []) why wrong port s refl
 
   renew-other : (port number count : ℕ) (seed : List ℕ) (s : State) → Other (renewChecked port number count seed s)
-  unfolding renewChecked
-  renew-other port number count seed s =
-      then-never (61 ∷ 62 ∷ []) why wrong (turnChecked port s) _ (turn-other port s)
-      (checks-other (test (leb 2 count && leb count 9999) Refusal.CountOutside ∷ ofAlgorithm (numbered number) ∷ ofSeed seed
-      ∷ test (not (same (map lowerOf seed) (accountOf (turnId s) s .seed))) Refusal.SeedSame ∷ []) refl)
+  renew-other port number count seed s = renew-never (61 ∷ 62 ∷ []) why wrong port number count seed s refl refl
 
   reading-other : (text : List ℕ) → readingOf text ≡ Reading.Refused why → ⊥
   reading-other text e =

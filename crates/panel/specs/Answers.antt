@@ -14,7 +14,7 @@ use Rattle.panel.specs.declared.structs.LiftWritten.{LiftWritten}
 
 abbrev pub readingRow : Reading → LiftReading
 readingRow r =
-    record { password = readingNumbers r .1; refusal = readingNumbers r .0 .0; place = readingNumbers r .0 .1 }
+    record { password = readingNumbers r .1; refusal = readingNumbers r .0 .0; marks = readingNumbers r .0 .1 }
 
 abbrev pub challengeRow : Challenge → LiftChallenge
 challengeRow c = record {

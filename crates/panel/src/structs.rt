@@ -11,7 +11,7 @@ use refusal::listing_of;
 pub struct LiftReading {
     pub password: u64,
     pub refusal: u32,
-    pub place: u32, // 1 to 6 with refusal 31, else 0
+    pub marks: u32, // 1 to 63 with refusal 31, else 0
 }
 
 #[repr(C)]
@@ -37,14 +37,14 @@ pub fn reading_row(reading: Reading) -> LiftReading
         Reading::Password(password) => LiftReading {
             password,
             refusal: 0,
-            place: 0,
+            marks: 0,
         },
         Reading::Refused(why) => {
             let listing = listing_of(why);
             LiftReading {
                 password: 0,
                 refusal: listing.0,
-                place: listing.1,
+                marks: listing.1,
             }
         }
     }

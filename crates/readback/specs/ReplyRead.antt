@@ -27,7 +27,7 @@ use Rattle.sixwords.specs.Laws.{places-count, places-all}
 use Rattle.hex.specs.Hex.{hexOf, sixteenDigits, hexReading}
 use Rattle.sixwords.specs.Spelling.{spaced, sixWordsOf, wordsOf}
 use Rattle.sixwords.specs.SpellingLaws.{words-length}
-use Rattle.reply.specs.Reply.{sixWords, upperText, summed, foundAfter, wordsReading, readingOf}
+use Rattle.reply.specs.Reply.{sixWords, upperText, summed, foundReading, wordsReading, readingOf}
 use Rattle.reply.specs.Laws.{six-parts}
 use Rattle.readback.specs.PlacesRead.{number-places, number-accepted}
 use Rattle.readback.specs.WordsRead.{places-words, places-upper, places-found, tokens-spaced, found-all, found-password, found-tokens}
@@ -54,20 +54,20 @@ words-accepted text h e p = (accepted, written)
     accepted r =
         let ts = tokens text in
         let parts = six-parts ts e in
-        let found = found-password 1 [] (map placeOf (map upperText ts)) p (sym (reads-words text h e) ∙ r) in
+        let found = found-password (map placeOf (map upperText ts)) p (sym (reads-words text h e) ∙ r) in
         let count : length (found .0) ≡ 6 =
         sym (length-map (found .0) Found.At) ∙ sym (ap length (found .1)) ∙ length-map (map upperText ts) placeOf ∙ length-map ts upperText
         ∙ parts .0 in
         let number = number-accepted (found .0) count p .0 (found .2) in
-        (number .0, found-tokens ts (found .0) (parts .1) (found .1) ∙ ap (map wordAt) (sym (number .1)))
+        (number .0, found-tokens ts (found .0) (parts .1) (found .1) .1 ∙ ap (map wordAt) (sym (number .1)))
 
     written : (p < 2 ^ 64) × (map upperText (tokens text) ≡ sixWordsOf p) → readingOf text ≡ Reading.Password p
     written w =
         let all = places-all p in
         reads-words text h e
         ∙ ap wordsReading (w .1)
-        ∙ ap (foundAfter 1 []) (places-found (placesOf p) all)
-        ∙ found-all 1 [] (placesOf p)
+        ∙ ap foundReading (places-found (placesOf p) all)
+        ∙ found-all (placesOf p)
         ∙ ap summed (number-places p (w .0))
 
 -- the tokens of the written words are the six words

@@ -1,13 +1,14 @@
 -- The six words of a password: words of the dictionary, read back by their places.
-use Prim.Native.Nat.{ℕ, suc, _<_}
+use Prim.Native.Nat.{ℕ, _<_}
 use native.Mathlib.Omega.{arith}
 use mathlib.Core.Path.{_≡_, refl, sym, _∙_, ap, ap₂}
 use mathlib.Core.Bool.{Bool, true, _&&_}
-use mathlib.Core.List.{List, [], _∷_, _++_, map, append-nil}
+use mathlib.Core.List.{List, [], _∷_, map}
 use lib.Dec.{ltb}
 use lib.ListN.{length, getD, length-map, List·getD-map}
-use lib.Seq.{ext-getD, append-snoc}
-use borrow.Author.Tests.{le-leb, ltb-true}
+use lib.Seq.{ext-getD}
+use borrow.Author.Tests.{le-leb, lt-ltb, ltb-true}
+use Rattle.refusal.specs.declared.Refusal.{Refusal}
 use Rattle.refusal.specs.declared.Reading.{Reading}
 use Rattle.text.specs.Kinds.{isLetter, isSolid, upperOf}
 use Rattle.text.specs.KindLaws.{past-space-solid, upper-letter, upper-kept}
@@ -20,7 +21,7 @@ use Rattle.dictionary.specs.Laws.{word-upper, word-spelt, found-word}
 use Rattle.sixwords.specs.declared.Number.{Number}
 use Rattle.sixwords.specs.Places.{allPlaces, numberOf}
 use Rattle.sixwords.specs.Spelling.{spacedFrom}
-use Rattle.reply.specs.Reply.{isWord, upperText, summed, foundAfter}
+use Rattle.reply.specs.Reply.{isWord, upperText, summed, marksOf, placeIn, markedOr, foundReading}
 use Rattle.reply.specs.Laws.{spelt-token}
 
 -- the words of the dictionary are words, solid, and in upper case
@@ -76,36 +77,68 @@ tokens-spaced i (j ∷ ps) h e =
     tokens-space (wordAt i) (spacedFrom (wordAt j) (map wordAt ps)) (dictionary-solid i h) (word-spelt i h .some)
     ∙ ap (λ (ts : List (List ℕ)). wordAt i ∷ ts) (tokens-spaced j ps (ltb-true j 2048 (halves .0)) (halves .1))
 
--- words that are all found are read by their places
-pub found-all : (k : ℕ) (known ps : List ℕ) → foundAfter k known (map Found.At ps) ≡ summed (numberOf (known ++ ps))
-unfolding foundAfter
-found-all k known [] = ap (λ (l : List ℕ). summed (numberOf l)) (sym (append-nil known))
-found-all k known (i ∷ ps) = found-all (suc k) (known ++ i ∷ []) ps ∙ ap (λ (l : List ℕ). summed (numberOf l)) (append-snoc known i ps)
+-- ---- words looked up: all are found, or some mark is set
+pub data Looked (found : List Found) : Type 0 where
+  all : (ps : List ℕ) → found ≡ map Found.At ps → Looked found
+  some : 0 < marksOf found → Looked found
+
+pub looked : (found : List Found) → Looked found
+unfolding marksOf
+looked [] = all [] refl
+looked (Found.At i ∷ found) = more (looked found)
+  where
+    more : Looked found → Looked (Found.At i ∷ found)
+    more (all ps e) = all (i ∷ ps) (ap (λ (l : List Found). Found.At i ∷ l) e)
+    more (some h) = some (omega arith)
+looked (Found.Nothing ∷ found) = some (omega arith)
+
+-- where all are found no mark is set, and the places are theirs
+none-marked : (ps : List ℕ) → marksOf (map Found.At ps) ≡ 0
+unfolding marksOf
+none-marked [] = refl
+none-marked (i ∷ ps) = omega (arith, none-marked ps)
+
+places-in : (ps : List ℕ) → map placeIn (map Found.At ps) ≡ ps
+places-in [] = refl
+places-in (i ∷ ps) = ap (λ (l : List ℕ). i ∷ l) (places-in ps)
+
+-- so they are read by their places
+pub found-all : (ps : List ℕ) → foundReading (map Found.At ps) ≡ summed (numberOf ps)
+unfolding foundReading
+found-all ps = ap₂ (λ (m : ℕ) (l : List ℕ). markedOr m (numberOf l)) (none-marked ps) (places-in ps)
+
+-- others are refused with their marks
+pub found-marked : (found : List Found) → 0 < marksOf found → foundReading found ≡ Reading.Refused (Refusal.WordUnknown (marksOf found))
+unfolding foundReading
+found-marked found h = rw (lt-ltb 0 (marksOf found) h)
 
 summed-is : (n : Number) (p : ℕ) → summed n ≡ Reading.Password p → n ≡ Number.Is p
 summed-is (Number.Is q) p e = cc
 summed-is Number.SumWrong p e = let z : _≡_ {A = ℕ} 0 1 = cc in absurd (omega arith)
 
--- and a password is read only from such
-pub found-password : (k : ℕ) (known : List ℕ) (found : List Found) (p : ℕ) → foundAfter k known found ≡ Reading.Password p →
-    (ps : List ℕ) × (found ≡ map Found.At ps) × (numberOf (known ++ ps) ≡ Number.Is p)
-unfolding foundAfter
-found-password k known [] p e = ([], refl, ap numberOf (append-nil known) ∙ summed-is (numberOf known) p e)
-found-password k known (Found.At i ∷ found) p e =
-    let later = found-password (suc k) (known ++ i ∷ []) found p e in
-    (i ∷ later .0, ap (λ (l : List Found). Found.At i ∷ l) (later .1), ap numberOf (sym (append-snoc known i (later .0))) ∙ later .2)
-found-password k known (Found.Nothing ∷ found) p e = let z : _≡_ {A = ℕ} 0 1 = cc in absurd (omega arith)
+-- and a password is read only from words that are all found
+pub found-password : (found : List Found) (p : ℕ) → foundReading found ≡ Reading.Password p →
+    (ps : List ℕ) × (found ≡ map Found.At ps) × (numberOf ps ≡ Number.Is p)
+found-password found p e = go (looked found)
+  where
+    go : Looked found → (ps : List ℕ) × (found ≡ map Found.At ps) × (numberOf ps ≡ Number.Is p)
+    go (all ps a) = (ps, a, summed-is (numberOf ps) p (sym (found-all ps) ∙ ap foundReading (sym a) ∙ e))
+    go (some h) =
+        let told : Reading.Refused (Refusal.WordUnknown (marksOf found)) ≡ Reading.Password p = sym (found-marked found h) ∙ e in
+        let z : _≡_ {A = ℕ} 0 1 = cc in
+        absurd (omega arith)
 
 -- tokens that are found at places are the words there
 pub found-tokens : (ts : List (List ℕ)) (ps : List ℕ) → every isWord ts ≡ true → map placeOf (map upperText ts) ≡ map Found.At ps →
-    map upperText ts ≡ map wordAt ps
-unfolding every
-found-tokens [] [] g e = refl
+    (allPlaces ps ≡ true) × (map upperText ts ≡ map wordAt ps)
+unfolding every allPlaces
+found-tokens [] [] g e = (refl, refl)
 found-tokens [] (i ∷ ps) g e = let z : _≡_ {A = ℕ} 0 1 = cc in absurd (omega arith)
 found-tokens (t ∷ ts) [] g e = let z : _≡_ {A = ℕ} 0 1 = cc in absurd (omega arith)
 found-tokens (t ∷ ts) (i ∷ ps) g e =
     let halves = both (isWord t) (every isWord ts) g in
-    let spelt = spelt-token t (halves .0) in
     let first : placeOf (upperText t) ≡ Found.At i = cc in
     let rest : map placeOf (map upperText ts) ≡ map Found.At ps = cc in
-    ap₂ (λ (w : List ℕ) (ws : List (List ℕ)). w ∷ ws) (sym (found-word (upperText t) spelt i .0 first .1)) (found-tokens ts ps (halves .1) rest)
+    let there = found-word (upperText t) (spelt-token t (halves .0)) i .0 first in
+    let more = found-tokens ts ps (halves .1) rest in
+    (ap₂ (λ (a b : Bool). a && b) (lt-ltb i 2048 (there .0)) (more .0), ap₂ (λ (w : List ℕ) (ws : List (List ℕ)). w ∷ ws) (sym (there .1)) (more .1))

@@ -1,4 +1,4 @@
--- The numbers of document 01, 'Refusal numbers', and the place that 31 carries; then the number and values of each enum answer.
+-- The numbers of document 01, 'Refusal numbers', and the marks that 31 carries; then the number and values of each enum answer.
 use Prim.Native.Nat.{ℕ}
 use Rattle.refusal.specs.declared.Refusal.{Refusal}
 use Rattle.refusal.specs.declared.Listing.{Listing}
@@ -6,7 +6,7 @@ use Rattle.refusal.specs.declared.Checked.{Checked}
 use Rattle.refusal.specs.declared.Reading.{Reading}
 use Rattle.refusal.specs.declared.Written.{Written}
 
--- "A refusal returns its number, and 31 its place": the number, then the place, 0 with every other.
+-- "A refusal returns its number, and 31 its place", which 02, R-2 makes marks: the number, then the marks, 0 with every other.
 abbrev pub listingOf : Refusal → Listing
 listingOf Refusal.PhraseShort = record { 0 = 10; 1 = 0 }
 listingOf Refusal.PhraseLong = record { 0 = 11; 1 = 0 }
@@ -19,7 +19,7 @@ listingOf Refusal.SeedLength = record { 0 = 23; 1 = 0 }
 listingOf Refusal.SeedCharacter = record { 0 = 24; 1 = 0 }
 listingOf Refusal.SeedUnended = record { 0 = 25; 1 = 0 }
 listingOf Refusal.ReplyLong = record { 0 = 30; 1 = 0 }
-listingOf (Refusal.WordUnknown place) = record { 0 = 31; 1 = place }
+listingOf (Refusal.WordUnknown marks) = record { 0 = 31; 1 = marks }
 listingOf Refusal.PairSumWrong = record { 0 = 32; 1 = 0 }
 listingOf Refusal.ReplyUnread = record { 0 = 33; 1 = 0 }
 listingOf Refusal.BufferShort = record { 0 = 40; 1 = 0 }
@@ -40,7 +40,7 @@ listingOf Refusal.SeedSame = record { 0 = 63; 1 = 0 }
 listingOf Refusal.LinesOutside = record { 0 = 70; 1 = 0 }
 
 -- 01, 'Forms for parts of the code': "Each enum answer has a definition that gives this paper's number and values for each of its cases."
--- The number and place, 0 where nothing is refused; then the value, 0 after a refusal. A challenge's is in `challenge`, that of Reply and
+-- The number and marks, 0 where nothing is refused; then the value, 0 after a refusal. A challenge's is in `challenge`, that of Reply and
 -- Renew in `table`.
 abbrev pub unrefused : Listing
 unrefused = record { 0 = 0; 1 = 0 }

@@ -15,7 +15,7 @@ pub enum Refusal {
     SeedCharacter, // 24
     SeedUnended, // 25
     ReplyLong, // 30
-    WordUnknown { place: u8 }, // 31, with the place of the first such word, 1 to 6
+    WordUnknown { marks: u8 }, // 31, with the marks, 1 to 63: 1 for the first word, 2 for the second, up to 32
     PairSumWrong, // 32
     ReplyUnread, // 33
     BufferShort, // 40
@@ -54,7 +54,7 @@ pub enum Written {
     Refused(Refusal),
 }
 
-// A refusal as the paper lists it: its number, then the place that 31 carries (0 with every other).
+// A refusal as the papers list it: its number, then the marks that 31 carries (0 with every other).
 pub struct Listing(pub u32, pub u32);
 
 pub fn listing_of(refusal: Refusal) -> Listing
@@ -72,7 +72,7 @@ pub fn listing_of(refusal: Refusal) -> Listing
         Refusal::SeedCharacter => Listing(24, 0),
         Refusal::SeedUnended => Listing(25, 0),
         Refusal::ReplyLong => Listing(30, 0),
-        Refusal::WordUnknown { place } => Listing(31, place as u32),
+        Refusal::WordUnknown { marks } => Listing(31, marks as u32),
         Refusal::PairSumWrong => Listing(32, 0),
         Refusal::ReplyUnread => Listing(33, 0),
         Refusal::BufferShort => Listing(40, 0),

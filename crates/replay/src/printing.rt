@@ -79,13 +79,23 @@ pub fn bytes(text: &[u8]) {
     }
 }
 
-// `no` and the paper's number, with 31's place.
+// 31's marks after a space: `0` or `1` for each word, the first first.
+fn marks(all: u32) {
+    byte(b' ');
+    let mut rest = all;
+    for _ in 0..6u32 {
+        byte(b'0' + (rest % 2) as u8);
+        rest = rest / 2;
+    }
+}
+
+// `no` and the paper's number, with 31's marks.
 pub fn no(why: Refusal) {
     let listing = refusal::listing_of(why);
     say(b"no");
     after_space(listing.0 as u64);
     if listing.1 != 0 {
-        after_space(listing.1 as u64);
+        marks(listing.1);
     }
 }
 

@@ -14,7 +14,7 @@ use Rattle.dictionary.specs.Dictionary.{foundOf, placeOf}
 use Rattle.dictionary.specs.Laws.{place-packed}
 use Rattle.reply.specs.declared.typed_words.Six.{Six}
 use Rattle.hex.specs.Hex.{hexReading}
-use Rattle.reply.specs.Reply.{isWord, upperText, sixWords, foundAfter, wordsReading, readingOf}
+use Rattle.reply.specs.Reply.{isWord, upperText, sixWords, foundReading, wordsReading, readingOf}
 use Rattle.reply.specs.Laws.{spelt-token, six-parts}
 use Rattle.reply.specs.Inside.{packedToken, sixOf}
 
@@ -43,12 +43,12 @@ unfolding readingOf
 too-long s h = rw (lt-ltb 128 (length s) h)
 
 module _ (s : List ℕ) (h : length s ≤ 128) (six : Six) (e : six ≡ sixOf (tokens s)) (r : Reading) where
-  pub as-words : six .are ≡ true → r ≡ foundAfter 1 [] (map foundOf (six .words)) → r ≡ readingOf s
+  pub as-words : six .are ≡ true → r ≡ foundReading (map foundOf (six .words)) → r ≡ readingOf s
   unfolding readingOf
   as-words a f =
       let told = six-told (sixWords (tokens s)) (map packedToken (tokens s)) (replicate 6 0) six e a in
-      f ∙ ap (λ (ws : List ℕ). foundAfter 1 [] (map foundOf ws)) (told .1)
-      ∙ ap (foundAfter 1 []) (found-tokens (tokens s) (six-parts (tokens s) (told .0) .1))
+      f ∙ ap (λ (ws : List ℕ). foundReading (map foundOf ws)) (told .1)
+      ∙ ap foundReading (found-tokens (tokens s) (six-parts (tokens s) (told .0) .1))
       ∙ sym (ap₂ (λ (a b : Bool). cond a (Reading.Refused Refusal.ReplyLong)
       (cond b (wordsReading (map upperText (tokens s))) (hexReading (unspaced s)))) (le-ltb 128 (length s) h) (told .0))
 

@@ -12,7 +12,7 @@ use Rattle.dictionary.specs.Words.{wordsIn, lines, words}
 use Rattle.dictionary.specs.Dictionary.{standsFrom, placeOf}
 use Rattle.sixwords.specs.Places.{pairs, pairSum, joined, allPlaces, numberOf}
 use Rattle.hex.specs.Hex.{sixteenDigits, hexReading}
-use Rattle.reply.specs.Reply.{isWord, sixWords, foundAfter, readingOf}
+use Rattle.reply.specs.Reply.{isWord, sixWords, marksOf, foundReading, readingOf}
 
 -- a reply and what it says
 abbrev pub Example : Type 0
@@ -30,14 +30,15 @@ examples =
     -- either case, and white space anywhere
     (" fowl kid  MASH Dead dUAL oaf ", Reading.Password 0x85c4_3ee0_3857_765b) ∷
     ("85c43EE03 857765b", Reading.Password 0x85c4_3ee0_3857_765b) ∷
-    -- the first unknown word, also where the letters are hex digits; a digit makes no word
-    ("FOWL KIDS MASH DEAD DUAL OAFS", Reading.Refused (Refusal.WordUnknown 2)) ∷
-    ("add ace ace bad bad f", Reading.Refused (Refusal.WordUnknown 6)) ∷
+    -- unknown words are marked, the second by 2 and the sixth by 32, also where the letters are hex digits; a digit makes no word
+    ("FOWL KIDS MASH DEAD DUAL OAFS", Reading.Refused (Refusal.WordUnknown 34)) ∷
+    ("add ace ace bad bad f", Reading.Refused (Refusal.WordUnknown 32)) ∷
+    ("q q q q q q", Reading.Refused (Refusal.WordUnknown 63)) ∷
     ("FOWL KID MASH DEAD DUAL 0", Reading.Refused Refusal.ReplyUnread) ∷
     ("FOWL KID MASH DEAD DUAL", Reading.Refused Refusal.ReplyUnread) ∷
     ("", Reading.Refused Refusal.ReplyUnread) ∷ []
 
 pub examples-read : map (λ (e : Example). readingOf (codes (e .0))) examples ≡ map (λ (e : Example). e .1) examples
-unfolding readingOf sixWords isWord foundAfter sixteenDigits hexReading every parted unspaced numberAfter codes wordsIn lines
+unfolding readingOf sixWords isWord marksOf foundReading sixteenDigits hexReading every parted unspaced numberAfter codes wordsIn lines
     words flatten same standsFrom placeOf pairs pairSum joined allPlaces numberOf
 examples-read = refl

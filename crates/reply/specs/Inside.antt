@@ -1,8 +1,10 @@
--- What the functions answer, packed: nothing that a reader of document 01 needs.
+-- What the inner functions answer: nothing that a reader of the documents needs.
 use Prim.Native.Nat.{ℕ, _+_}
 use mathlib.Core.Bool.{true, false, cond}
 use mathlib.Core.List.{List, map}
+use lib.Dec.{ltb}
 use lib.ListN.{length, take, drop, replicate}
+use Rattle.refusal.specs.declared.Refusal.{Refusal}
 use Rattle.text.specs.Kinds.{isWhite, isSolid}
 use Rattle.text.specs.Scan.{runOf}
 use Rattle.dictionary.specs.Dictionary.{packed}
@@ -31,3 +33,7 @@ wordOf t = cond (isWord t) (Word.Packed (packedToken t)) Word.Other
 -- the tokens packed, if they are six words; zeros else
 abbrev pub sixOf : List (List ℕ) → Six
 sixOf ts = cond (sixWords ts) (record { are = true; words = map packedToken ts }) (record { are = false; words = replicate 6 0 })
+
+-- what is wrong with words that have no number, by their marks
+abbrev pub whyNot : ℕ → Refusal
+whyNot marks = cond (ltb 0 marks) (Refusal.WordUnknown marks) Refusal.PairSumWrong

@@ -1,7 +1,7 @@
--- 01, Six words and hex: what a reply says.
-use Prim.Native.Nat.{ℕ, suc}
+-- 01, Six words and hex, and 02, R-2: what a reply says.
+use Prim.Native.Nat.{ℕ, _+_, _*_}
 use mathlib.Core.Bool.{Bool, cond, _&&_}
-use mathlib.Core.List.{List, [], _∷_, _++_, map}
+use mathlib.Core.List.{List, [], _∷_, map}
 use lib.Dec.{leb, ltb, eqb}
 use lib.ListN.{length}
 use Rattle.refusal.specs.declared.Refusal.{Refusal}
@@ -32,16 +32,31 @@ abbrev pub summed : Number → Reading
 summed (Number.Is p) = Reading.Password p
 summed Number.SumWrong = Reading.Refused Refusal.PairSumWrong
 
--- 31: "a word not in the dictionary, with its place 1 to 6, first such"; then the sum. The words before the k-th stand at
--- the places `known`, and the k-th and those after it are found as the list says.
-unfoldable pub foundAfter : ℕ → List ℕ → List Found → Reading
-foundAfter k known [] = summed (placesNumber known)
-foundAfter k known (Found.At i ∷ found) = foundAfter (suc k) (known ++ i ∷ []) found
-foundAfter k known (Found.Nothing ∷ found) = Reading.Refused (Refusal.WordUnknown k)
+-- 02, R-2: "a mark for each of the six, set exactly where that word isn't in the dictionary"
+abbrev pub markOf : Found → ℕ
+markOf (Found.At place) = 0
+markOf Found.Nothing = 1
+
+-- The marks as one number: the first word's is worth 1, and each one's twice what the one before it is.
+unfoldable pub marksOf : List Found → ℕ
+marksOf [] = 0
+marksOf (found ∷ rest) = markOf found + 2 * marksOf rest
+
+-- the place of a word that was found; else 2,048, which no word has
+abbrev pub placeIn : Found → ℕ
+placeIn (Found.At place) = place
+placeIn Found.Nothing = 2048
+
+-- "31 is still before 32, and is given exactly if at least one mark is set": what marks say, and then the number.
+abbrev pub markedOr : ℕ → Number → Reading
+markedOr marks number = cond (ltb 0 marks) (Reading.Refused (Refusal.WordUnknown marks)) (summed number)
+
+unfoldable pub foundReading : List Found → Reading
+foundReading found = markedOr (marksOf found) (placesNumber (map placeIn found))
 
 -- "it is read as words"
 abbrev pub wordsReading : List (List ℕ) → Reading
-wordsReading ws = foundAfter 1 [] (map placeOf ws)
+wordsReading ws = foundReading (map placeOf ws)
 
 -- 30: "reply over 128 bytes"; then words, and otherwise hex
 unfoldable pub readingOf : List ℕ → Reading

@@ -45,12 +45,12 @@ unfolding every
 every-append test [] ys = refl
 every-append test (x ∷ xs) ys = ap (λ (t : Bool). test x && t) (every-append test xs ys) ∙ sym (and-assoc (test x) (every test xs) (every test ys))
 
--- a test that each byte of a text passes, and the test at each place
-pub every-at : (test : ℕ → Bool) (s : List ℕ) → every test s ≡ true → (k : ℕ) → k < length s → test (getD s k 0) ≡ true
+-- a test that each element of a list passes, and the test at each place
+pub every-at : {A : Type 0} (test : A → Bool) (s : List A) (d : A) → every test s ≡ true → (k : ℕ) → k < length s → test (getD s k d) ≡ true
 unfolding every
-every-at test [] e k h = absurd (not-suc-le-zero h)
-every-at test (b ∷ s) e zero h = both (test b) (every test s) e .0
-every-at test (b ∷ s) e (suc k) h = every-at test s (both (test b) (every test s) e .1) k (le-of-suc-le-suc h)
+every-at test [] d e k h = absurd (not-suc-le-zero h)
+every-at test (b ∷ s) d e zero h = both (test b) (every test s) e .0
+every-at test (b ∷ s) d e (suc k) h = every-at test s d (both (test b) (every test s) e .1) k (le-of-suc-le-suc h)
 
 pub every-from : (test : ℕ → Bool) (s : List ℕ) → ((k : ℕ) → k < length s → test (getD s k 0) ≡ true) → every test s ≡ true
 unfolding every

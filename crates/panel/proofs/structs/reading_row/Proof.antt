@@ -9,7 +9,7 @@ use Rattle.panel.proofs.structs.reading_row.Tie as tie
 
 -- The row of a refusal's listing.
 abbrev refusedRow : Listing → LiftReading
-refusedRow l = record { password = 0; refusal = l .0; place = l .1 }
+refusedRow l = record { password = 0; refusal = l .0; marks = l .1 }
 
 pub reading-row-spec : {M : Type 1} → statement M
 reading-row-spec =
