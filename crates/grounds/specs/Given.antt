@@ -182,7 +182,7 @@ card-given = (Given.card (replicate 10 97) (codes "otp-md5 9 a ") 0 0 refl, tt)
 abbrev twenties : List ℕ
 twenties = 20 ∷ 21 ∷ 22 ∷ 23 ∷ 24 ∷ 25 ∷ []
 
-abbrev thirties : List ℕ
+abbrev pub thirties : List ℕ
 thirties = 30 ∷ 31 ∷ 32 ∷ 33 ∷ []
 
 abbrev fifties : List ℕ

@@ -18,15 +18,13 @@ use Rattle.table.specs.Steps as Steps
 use Rattle.table.specs.Steps.{After, replyRefused, turnChecked, renewChecked, read}
 use Rattle.reached.specs.Calls.{Call, Answer, repliedAnswer, answer}
 use Rattle.grounds.specs.Listed.{isIn}
+use Rattle.grounds.specs.Given.{thirties}
 use Rattle.grounds.specs.Never.{Never, turn-never, renew-never}
 use Rattle.grounds.specs.Unchanged.{offered-other}
 
-abbrev reader : List ℕ
-reader = 30 ∷ 31 ∷ 32 ∷ 33 ∷ []
-
-module _ (why : Refusal) (own : isIn (listingOf why .0) reader ≡ true) (other : isIn (listingOf why .0) (61 ∷ 62 ∷ []) ≡ false) where
+module _ (why : Refusal) (own : isIn (listingOf why .0) thirties ≡ true) (other : isIn (listingOf why .0) (61 ∷ 62 ∷ []) ≡ false) where
   -- Behind checks that never refuse so, and before an offer that doesn't either, the reading does.
-  handed-on : (s : State) (check : Checked) → Never reader why own check → (r : Reading) (next : ℕ → After Replied)
+  handed-on : (s : State) (check : Checked) → Never thirties why own check → (r : Reading) (next : ℕ → After Replied)
       → ((w : ℕ) → repliedAnswer (next w .answer) ≡ Answer.Refused why → ⊥)
       → (repliedAnswer (unless (replyRefused s) check (read s r next) .answer) ≡ Answer.Refused why)
       ↔ ((check ≡ Checked.Good) × (r ≡ Reading.Refused why))
@@ -47,7 +45,7 @@ module _ (why : Refusal) (own : isIn (listingOf why .0) reader ≡ true) (other 
       → (answer (Call.Reply port text) s ≡ Answer.Refused why) ↔ ((turnChecked port s ≡ Checked.Good) × (readingOf text ≡ Reading.Refused why))
   unfolding Steps.reply Steps.replyRead
   reply-hands-on port text s =
-      handed-on s (turnChecked port s) (turn-never reader why own port s refl) (readingOf text) _
+      handed-on s (turnChecked port s) (turn-never thirties why own port s refl) (readingOf text) _
       (λ w. offered-other why other port w (lowered (accountOf (turnId s) s) w) s)
 
   pub renew-hands-on : (port number count : ℕ) (seed new text : List ℕ) (s : State)
@@ -55,5 +53,5 @@ module _ (why : Refusal) (own : isIn (listingOf why .0) reader ≡ true) (other 
       ↔ ((renewChecked port number count seed s ≡ Checked.Good) × (readingOf text ≡ Reading.Refused why))
   unfolding Steps.renew Steps.renewRead
   renew-hands-on port number count seed new text s =
-      handed-on s (renewChecked port number count seed s) (renew-never reader why own port number count seed s refl refl) (readingOf text) _
+      handed-on s (renewChecked port number count seed s) (renew-never thirties why own port number count seed s refl refl) (readingOf text) _
       (λ w. offered-other why other port w (newRoom (accountOf (turnId s) s .id) number count seed new) s)
