@@ -53,7 +53,8 @@ COMPARED = {
 # the rows against the fastest of which a bound is held, the ratio that is to be reached, and the one aimed for
 Bound = collections.namedtuple("Bound", "rows most aim", defaults=[None])
 WANTED = {
-    "md5-chain": [Bound(IN_C, 1.00)],
+    # R-3 asks for 1.00, and for 1.10 where that and flash pull apart: docs/DECISIONS.md, Flash
+    "md5-chain": [Bound(IN_C, 1.10, 1.00)],
     "md5-digest-4096": [Bound(IN_C, 1.05)],
     "sha1-chain": [Bound(IN_C, 1.05), Bound(["heimdal"], 0.30)],
     "sha1-digest-4096": [Bound(IN_C, 1.10)],

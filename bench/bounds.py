@@ -6,6 +6,11 @@ def met(figure, most):
     return round(figure, 2) <= most
 
 
+def counted(figure, most):
+    """A bound on bytes, with whether it is met."""
+    return f"at most {most:,}, {'met' if figure <= most else 'NOT MET'}"
+
+
 def said(figure, most, aim=None):
     """A bound beside its figure: one that isn't met is marked."""
     words = f"{most:.2f}, {'met' if met(figure, most) else 'NOT MET'}"

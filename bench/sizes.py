@@ -1,4 +1,5 @@
 """What each exported function takes of a panel: code, read-only data, stack."""
+import bounds
 import harness
 
 # what is linked together in a panel that only reads, or only writes, replies
@@ -6,6 +7,9 @@ GROUPS = {
     "both writers": ["lift_write_hex", "lift_write_words"],
     "reader and writers": ["lift_read_reply", "lift_write_hex", "lift_write_words"],
 }
+# R-3: what lift_md5 is to take at most, as GNU ld lays it out: the 64 constants and little else, and 0.75 of the 3,699 and 608
+# bytes before the request
+MD5_DATA, MD5_ALL = 288, 3230
 # where a linker puts code, what is only read, and what is written
 KINDS = {"code": [".text"], "read-only": [".rodata"], "variables": [".data", ".bss"]}
 
@@ -53,6 +57,13 @@ def row(title, sizes, empty, stack):
     return f"{title:24} {code:10,} {data:16,} {stack:>10}".rstrip()
 
 
+def md5_bounds(sizes, empty):
+    """What R-3 asks of lift_md5, and whether it is met."""
+    code, data = (sizes[kind] - empty[kind] for kind in ("code", "read-only"))
+    return (f"lift_md5: {data:,} of read-only data, {bounds.counted(data, MD5_DATA)}; "
+            f"{code + data:,} with its code, {bounds.counted(code + data, MD5_ALL)}")
+
+
 def table(library):
     exported = symbols(library, "T")
     empty, stack = linked(library, []), stacks(library, exported)
@@ -63,5 +74,6 @@ def table(library):
     print("\n".join(row(name, linked(library, [name]), empty, stack.get(name, "not run")) for name in exported))
     print("\n".join(row(title, linked(library, names), empty, "") for title, names in GROUPS.items()))
     print(row("all of them", everything, empty, ""))
+    print(md5_bounds(linked(library, ["lift_md5"]), empty))
     print(f"Variables: {everything['variables'] - empty['variables']} bytes. "
           f"Called and not counted: {', '.join(symbols(library, 'U')) or 'nothing'}.")

@@ -1,16 +1,20 @@
-"""What is promised and stated, as a list to compare: `python3 host/listing.py [ROOT]`.
+"""What is promised and stated, as a list to compare: `python3 host/listing.py [--outer] [ROOT]`.
 
 A line for each function of a library that has a promise, with its signature and
 its clauses; for each theorem, with what its module takes for granted; and for
 each definition, whole. Names stand without their crate and module, so that the
 list of a tree from before a move is the list of the tree after it; two such
-lists are compared by `diff`.
+lists are compared by `diff`. With --outer it has only what others rely on: the
+functions that another crate or C can call, the types and constants that they
+can name, the definitions of the files that a reader must believe, by that
+tree's own docs/PROMISES.md, and the theorems of `demands`.
 """
 import pathlib
 import re
 import sys
 
 HEAD = re.compile(r"^(?:pub )?(?:extern \"C\" )?fn .*?^\{", re.M | re.S)
+DECLARED = re.compile(r"^(?:#\[repr\(C\)\]\n)?pub (?:const .*?;$|(?:struct|enum) [^{;]*(?:;|\{.*?^\}))", re.M | re.S)
 MODULE = re.compile(r"^ *module _ (.*?) where$", re.S)
 DEFINED = re.compile(r"^ *(?:(?:abbrev|unfoldable) pub|pub (?:record|data)) ")
 STATED = re.compile(r"^ *pub ([^\s:]+)((?: \{[^}]*\})?) : ")
@@ -27,13 +31,41 @@ def is_program(root, path):
     return (root / "crates" / path.relative_to(root / "crates").parts[0] / "src" / "main.rt").exists()
 
 
-def functions(root):
+def is_open(root, source):
+    """Whether another crate can name what is public in a source file: the modules on the way to it are."""
+    crate, _, *inside = source.relative_to(root / "crates").with_suffix("").parts
+    src = root / "crates" / crate / "src"
+    owners = [src / "lib.rt", *(src.joinpath(*inside[:end]).with_suffix(".rt") for end in range(1, len(inside)))]
+    return inside == ["lib"] or all(re.search(rf"^pub mod {part};", owner.read_text(), re.M) for owner, part in zip(owners, inside))
+
+
+def declared(root):
+    """Each type and constant that another crate can name, and each that C sees."""
+    for source in sorted(root.glob("crates/*/src/**/*.rt")):
+        if not is_program(root, source) and (is_open(root, source) or "#[repr(C)]" in source.read_text()):
+            for found in DECLARED.findall(source.read_text()):
+                yield plain(found)
+
+
+def functions(root, outer):
     """Each function with a promise; the programs have none that others rely on."""
     for source in sorted(root.glob("crates/*/src/**/*.rt")):
-        if not is_program(root, source):
-            for head in HEAD.findall(source.read_text()):
-                if "ensures" in head:
-                    yield plain(re.sub(r"^pub (?:extern \"C\" )?", "", head).rstrip("{"))
+        if is_program(root, source) or outer and not is_open(root, source):
+            continue
+        for head in HEAD.findall(source.read_text()):
+            if "ensures" in head and (head.startswith("pub ") or not outer):
+                yield plain(re.sub(r"^pub (?:extern \"C\" )?", "", head).rstrip("{"))
+
+
+def believed(root):
+    """The files that a reader must believe, by the page that lists them: one without a folder stands beside the one before."""
+    rows = (root / "docs" / "PROMISES.md").read_text().partition("## What a reader must believe")[2].partition("\n## ")[0]
+    for row in rows.splitlines():
+        folder = None
+        for name in re.findall(r"[\w/]+\.antt", row.split("|")[1] if row.startswith("|") else ""):
+            path = root / name if "/" in name else folder / name
+            folder = path.parent
+            yield path
 
 
 def depth(line):
@@ -60,9 +92,9 @@ def items(text):
         at = end
 
 
-def stated(root):
+def stated(pages, root):
     """Each theorem with what is taken for granted, and each definition with its clauses."""
-    for page in sorted(root.glob("crates/*/specs/**/*.antt")):
+    for page in sorted(pages):
         if is_program(root, page):
             continue
         found = list(items(page.read_text()))
@@ -75,10 +107,19 @@ def stated(root):
                 yield f"theorem {plain(item.replace('pub ', '', 1))}" + (f" given {given}" if given else "")
 
 
+def outer_lines(root):
+    """What others rely on: promises, types, the definitions to believe, and the theorems of the pages for a reader."""
+    yield from functions(root, True)
+    yield from declared(root)
+    yield from (line for line in stated(believed(root), root) if line.startswith("definition"))
+    yield from (line for line in stated(root.glob("crates/demands/specs/*.antt"), root) if line.startswith("theorem"))
+
+
 def main(arguments):
-    root = pathlib.Path(arguments[0] if arguments else __file__).resolve()
-    root = root if arguments else root.parent.parent
-    print("\n".join(sorted([*functions(root), *stated(root)])))
+    roots = [pathlib.Path(argument).resolve() for argument in arguments if argument != "--outer"]
+    root = roots[0] if roots else pathlib.Path(__file__).resolve().parent.parent
+    every = [*functions(root, False), *stated(root.glob("crates/*/specs/**/*.antt"), root)]
+    print("\n".join(sorted(outer_lines(root) if "--outer" in arguments else every)))
 
 
 if __name__ == "__main__":

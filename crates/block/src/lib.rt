@@ -2,11 +2,12 @@
 // and 5.2.1.
 ghost use mathlib.Core.Path.{_≡_};
 ghost use mathlib.Core.List.{[], _∷_};
-ghost use Prim.Native.Nat.{_+_, _*_, _<_, _≤_};
+ghost use Prim.Native.Nat.{_+_, _*_, _/_, _%_, _<_, _≤_};
 ghost use lib.ListN.{length};
 ghost use Rattle.digests.specs.Padding.{blocks, lengthByte, paddedByte, paddedWord, blockAt};
 ghost use Rattle.digests.specs.declared.Order.{Order};
 ghost use Rattle.digests.specs.Words32 as spec;
+ghost use Rattle.block.specs.Inside.{messageBytes, blockBytes};
 ghost use Rattle.block.specs.WordLaws.{firstWord, fourBytes};
 use digests::Order;
 
@@ -24,15 +25,17 @@ pub fn count(m: &[u8]) -> usize
     (m.len() + 8) / 64 + 1
 }
 
-// Byte k of a length in bits, written as eight bytes.
+// Byte k of a length in bits, written as eight bytes. Below 8 the number k ^ 7 is 7 - k: so the two orders share one
+// shift, and the compiler doesn't write the loop over the bytes once for each order.
 fn length_byte(order: Order, bits: usize, k: usize) -> u8
     requires { ⌜ k < 8 ⌝ }
     ensures { λ r. ⌜ r ≡ lengthByte order bits k ⌝ }
 {
-    match order {
-        Order::Little => ((bits >> (8 * k)) % 256) as u8,
-        Order::Big => ((bits >> (8 * (7 - k))) % 256) as u8,
-    }
+    let flip = match order {
+        Order::Little => 0,
+        Order::Big => 7,
+    };
+    ((bits >> (8 * (k ^ flip))) % 256) as u8
 }
 
 // Byte i of the padded message.
@@ -54,45 +57,14 @@ fn byte(order: Order, m: &[u8], i: usize) -> u8
     length_byte(order, 8 * n, i - end)
 }
 
-// Four bytes as they stand in a message, as a word.
-pub fn joined(order: Order, b0: u8, b1: u8, b2: u8, b3: u8) -> u32
-    ensures { λ r. ⌜ r ≡ spec.word order b0 b1 b2 b3 ⌝ }
-{
-    match order {
-        Order::Little => (b0 as u32)
-            + (b1 as u32) * 256
-            + (b2 as u32) * 65536
-            + (b3 as u32) * 16777216,
-        Order::Big => (b3 as u32)
-            + (b2 as u32) * 256
-            + (b1 as u32) * 65536
-            + (b0 as u32) * 16777216,
-    }
-}
-
-// Word i of the padded message.
-fn padded_word(order: Order, m: &[u8], i: usize) -> u32
-    requires { ⌜ (length (now m) ≤ 4096) × (i < 16 * blocks (length (now m))) ⌝ }
-    ensures { λ r. ⌜ r ≡ paddedWord order (now (m .entry)) i ⌝ }
-{
-    let at = 4 * i;
-    joined(
-        order,
-        byte(order, m, at),
-        byte(order, m, at + 1),
-        byte(order, m, at + 2),
-        byte(order, m, at + 3),
-    )
-}
-
 // The word whose bytes these are, low-order byte first.
 fn low_of(b0: u8, b1: u8, b2: u8, b3: u8) -> u32
     ensures { λ r. ⌜ spec.bytes4 Order.Little r ≡ b0 ∷ b1 ∷ b2 ∷ b3 ∷ [] ⌝ }
 {
-    joined(Order::Little, b0, b1, b2, b3)
+    (b0 as u32) + (b1 as u32) * 256 + (b2 as u32) * 65536 + (b3 as u32) * 16777216
 }
 
-// The word whose bytes, low-order byte first, are the message's at word i.
+// The word whose bytes, low-order byte first, are those at word i.
 fn low_word(m: &[u8], i: usize) -> u32
     requires { ⌜ 4 * i + 4 ≤ length (now m) ⌝ }
     ensures { λ r. ⌜ spec.bytes4 Order.Little r ≡ fourBytes (now (m .entry)) (4 * i) ⌝ }
@@ -101,16 +73,30 @@ fn low_word(m: &[u8], i: usize) -> u32
     low_of(m[at], m[at + 1], m[at + 2], m[at + 3])
 }
 
+// The word with x's four bytes in reverse.
+fn reversed(x: u32) -> u32
+    ensures { λ r. ⌜ r ≡ spec.word Order.Little (x / 16777216 % 256) (x / 65536 % 256) (x / 256 % 256) (x % 256) ⌝ }
+{
+    x / 16777216 % 256 + (x / 65536 % 256) * 256 + (x / 256 % 256) * 65536 + (x % 256) * 16777216
+}
+
 // A word that was read low-order byte first, as it is read in an order.
 fn reread(order: Order, x: u32) -> u32
     ensures { λ r. ⌜ r ≡ firstWord order (spec.bytes4 Order.Little x) ⌝ }
 {
     match order {
         Order::Little => x,
-        Order::Big => x / 16777216 % 256
-            + (x / 65536 % 256) * 256
-            + (x / 256 % 256) * 65536
-            + (x % 256) * 16777216,
+        Order::Big => reversed(x),
+    }
+}
+
+// The word that is read in an order from x's four bytes, most significant first.
+pub fn from_high(order: Order, x: u32) -> u32
+    ensures { λ r. ⌜ r ≡ spec.word order (x / 16777216 % 256) (x / 65536 % 256) (x / 256 % 256) (x % 256) ⌝ }
+{
+    match order {
+        Order::Big => x,
+        Order::Little => reversed(x),
     }
 }
 
@@ -123,41 +109,57 @@ fn message_word(order: Order, m: &[u8], i: usize) -> u32
     reread(order, low_word(m, i))
 }
 
-// Block j, all of whose bytes are the message's.
-fn message_block(order: Order, m: &[u8], j: usize) -> [u32; 16]
+// The 64 bytes of block j, where all are the message's.
+fn message_bytes(m: &[u8], j: usize) -> [u8; 64]
     requires { ⌜ 64 * j + 64 ≤ length (now m) ⌝ }
-    ensures { λ r. ⌜ r ≡ blockAt order (now (m .entry)) j ⌝ }
+    ensures { λ r. ⌜ r ≡ messageBytes (now (m .entry)) j ⌝ }
 {
-    let mut w = [0u32; 16];
-    let mut k = 0;
-    while k < 16 {
-        w[k] = message_word(order, m, 16 * j + k);
-        k += 1;
+    let mut b = [0u8; 64];
+    let mut i = 0;
+    while i < 64 {
+        b[i] = m[64 * j + i];
+        i += 1;
     }
-    w
+    b
 }
 
-// Block j, some of whose bytes are padding.
-fn padded_block(order: Order, m: &[u8], j: usize) -> [u32; 16]
+// The 64 bytes of block j, where some are padding.
+fn padded_bytes(order: Order, m: &[u8], j: usize) -> [u8; 64]
     requires { ⌜ (length (now m) ≤ 4096) × (j < blocks (length (now m))) ⌝ }
-    ensures { λ r. ⌜ r ≡ blockAt order (now (m .entry)) j ⌝ }
+    ensures { λ r. ⌜ r ≡ blockBytes order (now (m .entry)) j ⌝ }
 {
-    let mut w = [0u32; 16];
-    let mut k = 0;
-    while k < 16 {
-        w[k] = padded_word(order, m, 16 * j + k);
-        k += 1;
+    let mut b = [0u8; 64];
+    let mut i = 0;
+    while i < 64 {
+        b[i] = byte(order, m, 64 * j + i);
+        i += 1;
     }
-    w
+    b
 }
 
-// Block j of the padded message, its sixteen words.
+// The 64 bytes of block j.
+fn block_bytes(order: Order, m: &[u8], j: usize) -> [u8; 64]
+    requires { ⌜ (length (now m) ≤ 4096) × (j < blocks (length (now m))) ⌝ }
+    ensures { λ r. ⌜ r ≡ blockBytes order (now (m .entry)) j ⌝ }
+{
+    if 64 * j + 64 <= m.len() {
+        return message_bytes(m, j);
+    }
+    padded_bytes(order, m, j)
+}
+
+// Block j of the padded message, its sixteen words. Its bytes are copied first, and the words read from them as from a
+// message: so `byte` and the reading of words each stand once in the compiled code.
 pub fn block(order: Order, m: &[u8], j: usize) -> [u32; 16]
     requires { ⌜ (length (now m) ≤ 4096) × (j < blocks (length (now m))) ⌝ }
     ensures { λ r. ⌜ r ≡ blockAt order (now (m .entry)) j ⌝ }
 {
-    if 64 * j + 64 <= m.len() {
-        return message_block(order, m, j);
+    let b = block_bytes(order, m, j);
+    let mut w = [0u32; 16];
+    let mut k = 0;
+    while k < 16 {
+        w[k] = message_word(order, &b, k);
+        k += 1;
     }
-    padded_block(order, m, j)
+    w
 }

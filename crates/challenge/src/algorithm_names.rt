@@ -44,23 +44,15 @@ pub fn name_length(algorithm: Algorithm) -> usize
     }
 }
 
-// A text and a space after it.
-fn put_spaced(buf: &mut [u8], t: &[u8]) -> usize
-    requires { ⌜ length (now t) + 1 ≤ length (now buf) ⌝ }
-    ensures { λ r. ⌜ Put (now (t .entry) ++ 32 ∷ []) (now (buf .entry)) (now (buf .exit)) r ⌝ }
-{
-    let a = copy(buf, t);
-    buf[a] = b' ';
-    a + 1
-}
-
 // An algorithm's name and a space after it.
 pub fn put_name(buf: &mut [u8], algorithm: Algorithm) -> usize
     requires { ⌜ length (algorithmName algorithm) + 1 ≤ length (now buf) ⌝ }
     ensures { λ r. ⌜ Put (algorithmName algorithm ++ 32 ∷ []) (now (buf .entry)) (now (buf .exit)) r ⌝ }
 {
-    match algorithm {
-        Algorithm::Md5 => put_spaced(buf, &MD5),
-        Algorithm::Sha1 => put_spaced(buf, &SHA1),
-    }
+    let a = match algorithm {
+        Algorithm::Md5 => copy(buf, &MD5),
+        Algorithm::Sha1 => copy(buf, &SHA1),
+    };
+    buf[a] = b' ';
+    a + 1
 }

@@ -2,7 +2,7 @@
 use mathlib.Core.Path.{sym, _∙_}
 use denote.Ref.{now}
 use Rattle.block.proofs.count.Reads as count
-use Rattle.block.proofs.joined.Reads as joined
+use Rattle.block.proofs.from_high.Reads as from-high
 use Rattle.block.proofs.block.Reads as block
 use Rattle.block.proofs.arithmetic.add.Reads as add
 use Rattle.block.proofs.arithmetic.rotated.Reads as rotated
@@ -30,8 +30,8 @@ use Rattle.determined.specs.Determined.{Answers, AnswersAndLent, both, l
 pub count-determined : Answers count.Learnt
 count-determined k a y z e f p q = p ∙ sym q
 
-pub joined-determined : Answers joined.Learnt
-joined-determined k a y z e f p q = p ∙ sym q
+pub from-high-determined : Answers from-high.Learnt
+from-high-determined k a y z e f p q = p ∙ sym q
 
 pub block-determined : Answers block.Learnt
 block-determined k a y z e f p q = p ∙ sym q

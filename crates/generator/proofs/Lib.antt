@@ -1,3 +1,2 @@
 -- What the proofs of `generator`'s functions share.
 pub mod Chained
-pub mod TwoWords

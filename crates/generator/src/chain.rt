@@ -1,26 +1,25 @@
 // One step of the chain.
 ghost use mathlib.Core.Path.{_≡_};
 ghost use mathlib.Core.List.{_++_};
+ghost use Rattle.digests.specs.declared.Order.{Order};
 ghost use Rattle.digests.specs.Words32.{bytes4};
 ghost use Rattle.password.specs.Password as spec;
 use crate::fold::folded_md5;
 use crate::fold::folded_sha1;
-use block::joined;
 use digests::Order;
 use password::algorithm::Algorithm;
-use password::eight_bytes::bytes_of;
 
 // The first word of the block, and the second.
 struct Words(u32, u32);
 
-// The 8 bytes of a password as two words.
+// The 8 bytes of a password as two words. From eight single bytes the compiler made shifts and masks; from the
+// two halves it makes, for MD5, one reversal each.
 fn words_of(order: Order, p: u64) -> Words
     ensures { λ r. ⌜ bytes4 order (r .0) ++ bytes4 order (r .1) ≡ spec.bytesOf p ⌝ }
 {
-    let b = bytes_of(p);
     Words(
-        joined(order, b[0], b[1], b[2], b[3]),
-        joined(order, b[4], b[5], b[6], b[7]),
+        block::from_high(order, (p / 4294967296) as u32),
+        block::from_high(order, (p % 4294967296) as u32),
     )
 }
 

@@ -6,14 +6,14 @@ ghost use Rattle.digests.specs.Words32.{bytes4};
 ghost use Rattle.digests.specs.Md5.{output};
 ghost use Rattle.password.specs.Password as spec;
 use digests::FiveWords;
+use digests::Order;
 use digests::State;
 
 // A word's four bytes, low-order byte first, as a number with the first most significant.
 fn read_high(x: u32) -> u64
     ensures { λ r. ⌜ r ≡ spec.numberOf (bytes4 Order.Little x) ⌝ }
 {
-    let y = x as u64;
-    (y % 256) * 16777216 + (y / 256 % 256) * 65536 + (y / 65536 % 256) * 256 + y / 16777216 % 256
+    block::from_high(Order::Little, x) as u64
 }
 
 // Two words' eight bytes as the number of a password.

@@ -1,5 +1,5 @@
 -- Helper definitions and laws; MD5 itself is defined in `digests`.
+pub mod Formulas
 pub mod Inside
 pub mod Laws
-pub mod SumLaws
-pub mod Sums
+pub mod OperationLaws

@@ -10,3 +10,4 @@ pub mod PhraseAndSeed
 pub mod PhraseAndSeedLaws
 pub mod EightBytes
 pub mod EightBytesLaws
+pub mod Inside

@@ -5,6 +5,7 @@ ghost use Prim.Native.Nat.{_≤_};
 ghost use lib.ListN.{length};
 ghost use Rattle.text.specs.Put.{Put};
 ghost use Rattle.text.specs.Kinds.{lowerOf};
+ghost use Rattle.password.specs.Inside.{capitalFrom};
 ghost use Rattle.password.specs.PhraseAndSeed.{phraseChecked, plain, seedChecked};
 use refusal::Checked;
 use refusal::Refusal;
@@ -43,17 +44,33 @@ pub fn check_seed(seed: &[u8]) -> Checked
     Checked::Refused(Refusal::SeedCharacter)
 }
 
+// The place of the first capital from `at` on and below `n`, or `n`. It has a way out at each byte, so that the compiler
+// writes no loop for sixteen bytes at a time.
+fn capital_from(s: &[u8], at: usize, n: usize) -> usize
+    requires { ⌜ (at ≤ n) × (n ≤ length (now s)) ⌝ }
+    ensures { λ r. ⌜ r ≡ capitalFrom at n (now (s .entry)) ⌝ }
+{
+    let mut i = at;
+    while i < n {
+        let b = s[i];
+        if (b'A' <= b) & (b <= b'Z') {
+            return i;
+        }
+        i += 1;
+    }
+    n
+}
+
 // The seed in lower case at the front of the buffer.
 pub fn put_lower(buf: &mut [u8], seed: &[u8]) -> usize
     requires { ⌜ length (now seed) ≤ length (now buf) ⌝ }
     ensures { λ r. ⌜ Put (map lowerOf (now (seed .entry))) (now (buf .entry)) (now (buf .exit)) r ⌝ }
 {
-    let mut i = 0;
-    while i < seed.len() {
-        let typed = seed[i];
-        let kept = text::kinds::lower(typed);
-        buf[i] = kept;
-        i += 1;
+    let n = text::put::copy(buf, seed);
+    let mut i = capital_from(buf, 0, n);
+    while i < n {
+        buf[i] = buf[i] + 32;
+        i = capital_from(buf, i + 1, n);
     }
-    i
+    n
 }

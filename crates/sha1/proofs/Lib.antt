@@ -1,4 +1,3 @@
 -- What the proofs of `sha1`'s functions share.
-pub mod Choice
 pub mod Scheduled
 pub mod BySixteen

@@ -38,10 +38,11 @@ fn summed(v: FiveWords, h: FiveWords) -> FiveWords
     }
 }
 
-// The hash value after the block w0.
-fn compress(w0: [u32; 16], h: FiveWords) -> FiveWords
-    ensures { λ r. ⌜ r ≡ spec.compressed w0 h ⌝ }
+// The hash value after the block w.
+fn compress(w: &[u32; 16], h: FiveWords) -> FiveWords
+    ensures { λ r. ⌜ r ≡ spec.compressed (now (w .entry)) h ⌝ }
 {
+    let w0 = *w;
     let v1 = sixteen_of(0, h, w0);
     let w1 = following(w0);
     let v2 = sixteen_of(16, v1, w1);
@@ -54,23 +55,13 @@ fn compress(w0: [u32; 16], h: FiveWords) -> FiveWords
 }
 
 // The hash value after a message of eight bytes, given as two words. Its one block has the bit after them and ends with
-// the length, 64 bits. The steps are written again here: fourteen words of the block are constants, and where the
-// compiler sees them it leaves out a seventh of a chain step's instructions.
+// the length, 64 bits. That fourteen of its words are constants isn't used: a second copy of the steps would take 4 KB.
 pub fn compress_eight(first: u32, second: u32) -> FiveWords
     ensures { λ r. ⌜ r ≡ spec.hashValue (bytes4 Order.Big first ++ bytes4 Order.Big second) ⌝ }
 {
     let bit = 0x80000000;
-    let w0 = [first, second, bit, 0, 0, 0, 0, 0, 0, 0, 0, 0, 0, 0, 0, 64];
-    let h = initial();
-    let v1 = sixteen_of(0, h, w0);
-    let w1 = following(w0);
-    let v2 = sixteen_of(16, v1, w1);
-    let w2 = following(w1);
-    let v3 = sixteen_of(32, v2, w2);
-    let w3 = following(w2);
-    let v4 = sixteen_of(48, v3, w3);
-    let w4 = following(w3);
-    summed(sixteen_of(64, v4, w4), h)
+    let w = [first, second, bit, 0, 0, 0, 0, 0, 0, 0, 0, 0, 0, 0, 0, 64];
+    compress(&w, initial())
 }
 
 // The hash value after the whole message.
@@ -82,7 +73,8 @@ pub fn hash_value(m: &[u8]) -> FiveWords
     let n = block::count(m);
     let mut j = 0;
     while j < n {
-        h = compress(block::block(Order::Big, m, j), h);
+        let w = block::block(Order::Big, m, j);
+        h = compress(&w, h);
         j += 1;
     }
     h

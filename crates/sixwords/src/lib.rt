@@ -52,13 +52,14 @@ pub fn number_of(places: [usize; 6]) -> Number
     }
 }
 
-// The 32 pairs of bits of a number, added.
+// The 32 pairs of bits of a number, added. It ends where only zeros are left: a loop of 32 the compiler wrote out in
+// full.
 fn pair_sum(p: u64) -> u64
     ensures { λ r. ⌜ r ≡ pairSum p ⌝ }
 {
     let mut rest = p;
     let mut sum = 0;
-    for _ in 0..32u32 {
+    while 0 < rest {
         sum += rest % 4;
         rest = rest / 4;
     }

@@ -13,7 +13,7 @@ use lib.Arith.{digits-lt, digits-div, digits-mod}
 use borrow.Author.Tests.{lt-ltb, le-ltb, le-leb, lt-leb, leb-true, leb-false, ltb-true, ltb-false}
 use Rattle.text.specs.Tests.{every, every-append, every-weaker, either, cases, both}
 use Rattle.text.specs.Kinds.{isDigit, isUpper, isSolid, lowerOf}
-use Rattle.text.specs.KindLaws.{past-space-solid}
+use Rattle.text.specs.KindLaws.{past-space-solid, capital-lower}
 use Rattle.text.specs.Digits.{digitOf, digitsOf, isHex, digitValue, numberAfter, numberOf}
 
 pub value-digit : (b : ℕ) → isDigit b ≡ true → digitValue b ≡ b - 48
@@ -183,14 +183,10 @@ lower-value b = cases (isUpper b) upper (λ e. ap digitValue (ap (λ (t : Bool).
   where
     upper : isUpper b ≡ true → digitValue (lowerOf b) ≡ digitValue b
     upper e =
-        let halves = both (leb 65 b) (leb b 90) e in
-        let from = leb-true 65 b (halves .0) in
-        let to = leb-true b 90 (halves .1) in
-        let low : lowerOf b ≡ b + 32 = ap (λ (t : Bool). cond t (b + 32) b) e in
-        let kept : lowerOf (b + 32) ≡ b + 32 = rw (le-leb 65 (b + 32) (omega arith), lt-leb (b + 32) 90 (omega arith)) in
+        let low = capital-lower b e in
         let one : isDigit (b + 32) ≡ false = rw (le-leb 48 (b + 32) (omega arith), lt-leb (b + 32) 57 (omega arith)) in
         let two : isDigit b ≡ false = rw (le-leb 48 b (omega arith), lt-leb b 57 (omega arith)) in
-        ap digitValue low ∙ lower-means (b + 32) (b + 32) one kept ∙ sym (lower-means b (b + 32) two low)
+        ap digitValue (low .2) ∙ lower-means (b + 32) (b + 32) one (low .3) ∙ sym (lower-means b (b + 32) two (low .2))
 
 pub lower-hex : (b : ℕ) → isHex (lowerOf b) ≡ isHex b
 lower-hex b = hex-value (lowerOf b) ∙ ap (λ (v : ℕ). ltb v 16) (lower-value b) ∙ sym (hex-value b)

@@ -1,11 +1,11 @@
 -- Laws of the kinds of a byte.
-use Prim.Native.Nat.{ℕ, _-_, _≤_}
+use Prim.Native.Nat.{ℕ, _+_, _-_, _≤_}
 use native.Mathlib.Omega.{arith}
-use mathlib.Core.Path.{_≡_, sym, _∙_, ap₂}
-use mathlib.Core.Bool.{Bool, true, false, true≢false, _||_}
+use mathlib.Core.Path.{_≡_, sym, _∙_, ap, ap₂}
+use mathlib.Core.Bool.{Bool, true, false, true≢false, cond, _||_}
 use lib.Dec.{leb}
 use borrow.Author.Tests.{le-leb, lt-leb, leb-true, ne-eqb}
-use Rattle.text.specs.Kinds.{isUpper, isLower, isLetter, isSolid, upperOf}
+use Rattle.text.specs.Kinds.{isUpper, isLower, isLetter, isSolid, lowerOf, upperOf}
 use Rattle.text.specs.Tests.{either, cases, both}
 
 -- what lies past the space is no white space
@@ -35,3 +35,11 @@ letter-upper b e =
     upper f g =
         let halves = both (leb 65 b) (leb b 90) g in
         omega (arith, leb-true 65 b (halves .0), leb-true b 90 (halves .1))
+
+-- a capital's lower case is 32 more, and is its own
+pub capital-lower : (b : ℕ) → isUpper b ≡ true → (65 ≤ b) × (b ≤ 90) × (lowerOf b ≡ b + 32) × (lowerOf (b + 32) ≡ b + 32)
+capital-lower b e =
+    let halves = both (leb 65 b) (leb b 90) e in
+    let from = leb-true 65 b (halves .0) in
+    let to = leb-true b 90 (halves .1) in
+    (from, to, ap (λ (t : Bool). cond t (b + 32) b) e, rw (le-leb 65 (b + 32) (omega arith), lt-leb (b + 32) 90 (omega arith)))

@@ -1,49 +1,65 @@
--- `put_name` meets its promise, for each algorithm.
-use Prim.Native.Nat.{ℕ, _+_, _≤_}
-use mathlib.Core.Path.{_≡_, sym, ap, subst}
-use mathlib.Core.List.{List, [], _∷_, _++_}
+-- `put_name` meets its promise: by either arm the name was put, and then the space past it.
+use Prim.Native.Nat.{ℕ, _+_, _≤_, _<_}
+use mathlib.Core.Path.{_≡_, sym, _∙_, ap}
+use mathlib.Core.List.{List}
+use mathlib.Core.Logic.{⊎-elim}
 use borrow.Author.Needs.{needs}
-use lib.ListN.{length}
-use Rattle.text.specs.Put.{Put}
+use native.Mathlib.Omega.{arith}
+use lib.ListN.{length, length-set}
+use Rattle.text.specs.Put.{front, Put}
+use Rattle.text.specs.PutLaws.{then-byte, length-front}
 use Rattle.text.specs.Quoted.{codes}
 use Rattle.password.specs.declared.algorithm.Algorithm.{Algorithm}
 use Rattle.password.specs.Algorithm.{algorithmName}
 use Rattle.challenge.proofs.algorithm_names.put_name.Statement.{statement}
 use Rattle.challenge.proofs.algorithm_names.put_name.Tie as tie
 
--- what was put is the algorithm's name
-name-put : (a : Algorithm) (t b b′ : List ℕ) (n : ℕ) → algorithmName a ≡ t → Put (t ++ 32 ∷ []) b b′ n → Put (algorithmName a ++ 32 ∷ []) b b′ n
-name-put a t b b′ n e put = subst (λ (name : List ℕ). Put (name ++ 32 ∷ []) b b′ n) (sym e) put
+-- what an arm's `copy` put is the algorithm's name
+arm : (a : Algorithm) (t b b₁ b′ : List ℕ) (n m : ℕ) → algorithmName a ≡ t → Put t b b₁ n → b′ ≡ b₁ → m ≡ n → Put (algorithmName a) b b′ m
+arm a t b b₁ b′ n m e p same count = (
+  count ∙ p .0 ∙ ap length (sym e),
+  same ∙ p .1 ∙ ap (λ (l : List ℕ). front l b) (sym e),
+)
 
-put-spaced-requires : tie.Need-put-spaced-requires
+-- and has room
+room : (a its : Algorithm) (b : List ℕ) → a ≡ its → length (algorithmName a) + 1 ≤ length b → length (algorithmName its) ≤ length b
+room a its b e h = omega (arith, rw e at h)
+
+copy-requires : tie.Need-copy-requires
 unfolding algorithmName codes
-put-spaced-requires c κs =
+copy-requires c κs =
     let told = c .before .before in
     let start = told .before .before .before in
-    subst (λ (a : Algorithm). length (algorithmName a) + 1 ≤ length (start .args .buf .now)) (told .enum-told .given .1) (start .pre)
+    room _ Algorithm.Md5 (start .args .buf .now) (told .enum-told .given .1) (start .pre)
 
-put-spaced-requires-2 : tie.Need-put-spaced-requires-2
+copy-requires-2 : tie.Need-copy-requires-2
 unfolding algorithmName codes
-put-spaced-requires-2 c κs =
+copy-requires-2 c κs =
     let told = c .before .before in
     let start = told .before .before .before in
-    subst (λ (a : Algorithm). length (algorithmName a) + 1 ≤ length (start .args .buf .now)) (told .enum-told2 .given .1) (start .pre)
+    room _ Algorithm.Sha1 (start .args .buf .now) (told .enum-told2 .given .1) (start .pre)
+
+name-put : (c : tie.At-match-came) → Put (algorithmName (c .before .before .args .algorithm)) (c .before .before .args .buf .now) (c .match .buf) (c .match .a)
+unfolding algorithmName codes
+name-put c =
+    let a = c .before .before .args in
+    ⊎-elim
+    (λ w. arm (a .algorithm) _ (a .buf .now) _ _ _ _ (ap algorithmName (w .1 .given .1)) (w .4 .ensures) (w .7) (w .8))
+    (λ w. arm (a .algorithm) _ (a .buf .now) _ _ _ _ (ap algorithmName (w .1 .given .1)) (w .4 .ensures) (w .7) (w .8))
+    (c .match .came)
+
+as-long : (c : tie.At-match-came) → length (c .match .buf) ≡ length (c .before .before .args .buf .now)
+as-long c =
+    let a = c .before .before .args in
+    ap length (name-put c .1) ∙ length-front (algorithmName (a .algorithm)) (a .buf .now) (omega arith)
+
+past-name : (c : tie.At-match-came) → c .match .a < length (c .match .buf)
+past-name c = omega (arith, name-put c .0, as-long c)
 
 returns : tie.Need-returns
-unfolding algorithmName codes
 returns c =
-    let call = c .before .before in
-    let told = call .before .before .before in
-    let a = told .before .before .before .args in
-    name-put (a .algorithm) _ (a .buf .now) _ _ (ap algorithmName (told .enum-told .given .1)) (call .put-spaced .ensures)
-
-returns-2 : tie.Need-returns-2
-unfolding algorithmName codes
-returns-2 c =
-    let call = c .before .before in
-    let told = call .before .before .before in
-    let a = told .before .before .before .args in
-    name-put (a .algorithm) _ (a .buf .now) _ _ (ap algorithmName (told .enum-told2 .given .1)) (call .put-spaced2 .ensures)
+    let a = c .before .before .before .args in
+    then-byte (algorithmName (a .algorithm)) (a .buf .now) _ _ 32 (past-name (c .before)) (name-put (c .before))
 
 pub put-name-spec : {M : Type 1} → statement M
 put-name-spec =
@@ -51,11 +67,11 @@ put-name-spec =
     (tie.spec
     (λ c. search needs)
     (λ c. search needs)
-    put-spaced-requires
+    copy-requires
     (λ c. search needs)
     (λ c. search needs)
-    put-spaced-requires-2
-    (λ c. search needs)
-    returns
-    (λ c. search needs)
-    returns-2)
+    copy-requires-2
+    past-name
+    (λ c. omega (arith, past-name (c .before), as-long (c .before)))
+    (λ c. simp length-set (as-long (c .before)))
+    returns)

@@ -1,12 +1,11 @@
 -- `compress_eight` meets its promise: its block is the one of the eight bytes.
 use Prim.Native.Nat.{ℕ, _<_, _^_}
-use mathlib.Core.Path.{_≡_, sym, ap₂, _∙_}
+use mathlib.Core.Path.{_≡_, refl, sym, ap, ap₂, _∙_}
 use mathlib.Core.List.{List, [], _∷_, _++_}
 use borrow.Author.Needs.{needs}
 use Rattle.digests.specs.Lists.{upTo}
 use Rattle.digests.specs.Padding.{paddedByte, paddedWord, blockAt, absorbed}
 use Rattle.digests.specs.Rounds.{round1, round2, round3, round4, compressed}
-use Rattle.md5.specs.SumLaws.{compressed-by-sums}
 use Rattle.digests.specs.declared.Order.{Order}
 use Rattle.digests.specs.Words32.{bytes4}
 use Rattle.digests.specs.Md5.{initial, registers}
@@ -24,16 +23,16 @@ unfolding registers absorbed blockAt paddedWord paddedByte upTo
 registers-eight x y h g =
     ap₂ (λ (u v : ℕ). compressed (blockOf u v) initial) (sym (word-bytes4 Order.Little x h)) (sym (word-bytes4 Order.Little y g))
 
-returns : tie.Need-returns
+compress-requires : tie.Need-compress-requires
 unfolding round1 round2 round3 round4
+compress-requires c κs = ((refl, refl), (refl, refl))
+
+returns : tie.Need-returns
 returns c =
-    let start = c .before .before .before .before .before in
-    compressed-by-sums (blockOf (start .args .first) (start .args .second)) _ _ _ _ _ _
-    (c .before .before .before .before .sums .ensures)
-    (c .before .before .before .sums2 .ensures)
-    (c .before .before .sums3 .ensures)
-    (c .before .sums4 .ensures)
-    (c .mixed .ensures)
+    let begun = c .before .before .before .before .before .before in
+    let start = begun .before in
+    c .compress .ensures
+    ∙ ap (compressed (blockOf (start .args .first) (start .args .second))) (begun .initial .ensures)
     ∙ registers-eight (start .args .first) (start .args .second) (start .fits .first .fits) (start .fits .second .fits)
 
 pub compress-eight-spec : {M : Type 1} → statement M
@@ -41,8 +40,5 @@ compress-eight-spec =
     tie.close
     (tie.spec
     (λ c κs. search needs)
-    (λ c κs. search needs)
-    (λ c κs. search needs)
-    (λ c κs. search needs)
-    (λ c κs. search needs)
+    compress-requires
     returns)

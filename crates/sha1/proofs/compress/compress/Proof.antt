@@ -8,8 +8,8 @@ returns : tie.Need-returns
 returns c =
     let second = c .before .before .before .before .before .before in
     let first = second .before .before in
-    let start = first .before .before in
-    compressed-by-sixteen (start .args .w0) (start .args .h) _ _ _ _ _ _ _ _ _ _
+    let start = first .before .before .before in
+    compressed-by-sixteen (start .args .w .now) (start .args .h) _ _ _ _ _ _ _ _ _ _
     (first .before .sixteen-of .ensures)
     (first .following .ensures) (second .before .sixteen-of2 .ensures)
     (second .following2 .ensures) (c .before .before .before .before .before .sixteen-of3 .ensures)

@@ -9,7 +9,6 @@ use Rattle.digests.specs.Words32.{bytes4}
 use Rattle.digests.specs.Padding.{paddedByte, paddedWord, blockAt, absorbed}
 use Rattle.digests.specs.Sha1.{initial, compressed, hashValue}
 use Rattle.block.specs.WordLaws.{word-bytes4}
-use Rattle.sha1.proofs.BySixteen.{compressed-by-sixteen}
 use Rattle.sha1.proofs.compress.compress_eight.Statement.{statement}
 use Rattle.sha1.proofs.compress.compress_eight.Tie as tie
 
@@ -25,32 +24,10 @@ value-eight x y h g =
 
 returns : tie.Need-returns
 returns c =
-    let second = c .before .before .before .before .before .before in
-    let first = second .before .before in
-    let start = first .before .before .before in
-    compressed-by-sixteen (blockOf (start .args .first) (start .args .second)) _ _ _ _ _ _ _ _ _ _ _
-    (first .before .sixteen-of .ensures)
-    (first .following .ensures) (second .before .sixteen-of2 .ensures)
-    (second .following2 .ensures) (c .before .before .before .before .before .sixteen-of3 .ensures)
-    (c .before .before .before .before .following3 .ensures) (c .before .before .before .sixteen-of4 .ensures)
-    (c .before .before .following4 .ensures) (c .before .sixteen-of5 .ensures)
-    (c .summed .ensures)
-    ∙ ap (compressed (blockOf (start .args .first) (start .args .second))) (first .before .before .initial .ensures)
+    let start = c .before .before .before in
+    c .compress .ensures
+    ∙ ap (compressed (blockOf (start .args .first) (start .args .second))) (c .before .initial .ensures)
     ∙ value-eight (start .args .first) (start .args .second) (start .fits .first .fits) (start .fits .second .fits)
 
 pub compress-eight-spec : {M : Type 1} → statement M
-compress-eight-spec =
-    tie.close
-    (tie.spec
-    (λ c κs. search needs)
-    (λ c κs. search needs)
-    (λ c κs. search needs)
-    (λ c κs. search needs)
-    (λ c κs. search needs)
-    (λ c κs. search needs)
-    (λ c κs. search needs)
-    (λ c κs. search needs)
-    (λ c κs. search needs)
-    (λ c κs. search needs)
-    (λ c κs. search needs)
-    returns)
+compress-eight-spec = tie.close (tie.spec (λ c κs. search needs) (λ c κs. search needs) returns)

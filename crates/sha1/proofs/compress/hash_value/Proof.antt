@@ -25,7 +25,7 @@ loop-again : tie.Need-loop-again Inv-loop μ-loop
 unfolding absorbed
 loop-again c = (
   omega arith,
-  rw add-one (c .compress .ensures ∙ ap₂ compressed (c .before .block .ensures) (c .before .before .before .loop .inv .1)),
+  rw add-one (c .compress .ensures ∙ ap₂ compressed (c .before .before .block .ensures) (c .before .before .before .before .loop .inv .1)),
 )
 
 returns : tie.Need-returns Inv-loop μ-loop

@@ -1,5 +1,5 @@
 -- `ch` meets its promise: bit by bit it is the standard's function.
-use Rattle.sha1.proofs.Choice.{choice}
+use Rattle.block.specs.ChoiceLaws.{choice}
 use Rattle.sha1.proofs.eighty_steps.functions.ch.Statement.{statement}
 use Rattle.sha1.proofs.eighty_steps.functions.ch.Tie as tie
 

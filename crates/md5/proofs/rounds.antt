@@ -1,2 +1,0 @@
--- What the proofs of `rounds`'s functions share.
-pub mod Fours
