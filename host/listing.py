@@ -31,18 +31,25 @@ def is_program(root, path):
     return (root / "crates" / path.relative_to(root / "crates").parts[0] / "src" / "main.rt").exists()
 
 
-def is_open(root, source):
-    """Whether another crate can name what is public in a source file: the modules on the way to it are."""
+def is_open(root, crate, inside):
+    """Whether each module on the way is public in the one that holds it."""
+    for depth, part in enumerate(inside):
+        holder = "/".join(inside[:depth]) or "lib"
+        if f"pub mod {part};" not in (root / "crates" / crate / "src" / f"{holder}.rt").read_text():
+            return False
+    return True
+
+
+def can_be_named(root, source):
+    """Whether another crate can name what is public in a source file."""
     crate, _, *inside = source.relative_to(root / "crates").with_suffix("").parts
-    src = root / "crates" / crate / "src"
-    owners = [src / "lib.rt", *(src.joinpath(*inside[:end]).with_suffix(".rt") for end in range(1, len(inside)))]
-    return inside == ["lib"] or all(re.search(rf"^pub mod {part};", owner.read_text(), re.M) for owner, part in zip(owners, inside))
+    return is_open(root, crate, [part for part in inside if part != "lib"])
 
 
 def declared(root):
     """Each type and constant that another crate can name, and each that C sees."""
     for source in sorted(root.glob("crates/*/src/**/*.rt")):
-        if not is_program(root, source) and (is_open(root, source) or "#[repr(C)]" in source.read_text()):
+        if not is_program(root, source) and (can_be_named(root, source) or "#[repr(C)]" in source.read_text()):
             for found in DECLARED.findall(source.read_text()):
                 yield plain(found)
 
@@ -50,7 +57,7 @@ def declared(root):
 def functions(root, outer):
     """Each function with a promise; the programs have none that others rely on."""
     for source in sorted(root.glob("crates/*/src/**/*.rt")):
-        if is_program(root, source) or outer and not is_open(root, source):
+        if is_program(root, source) or outer and not can_be_named(root, source):
             continue
         for head in HEAD.findall(source.read_text()):
             if "ensures" in head and (head.startswith("pub ") or not outer):

@@ -1,6 +1,7 @@
 """docs/PROMISES.md: what it names is there, and what it lists is all there is."""
 import re
 
+import listing
 from harness import ROOT, Failed
 
 CRATES = ROOT / "crates"
@@ -39,16 +40,11 @@ def named(cells):
 
 def files():
     """The files that a reader must believe."""
-    seen = 0
-    for cells in section("What a reader must believe"):
-        folder = None
-        for name in re.findall(r"[\w/]+\.antt", cells[0]):
-            path = ROOT / name if "/" in name else folder / name
-            folder = path.parent
-            if not path.is_file():
-                raise Failed(f"no such file: {name}")
-            seen += 1
-    return seen
+    paths = list(listing.believed(ROOT))
+    for path in paths:
+        if not path.is_file():
+            raise Failed(f"no such file: {path.relative_to(ROOT)}")
+    return len(paths)
 
 
 def edits():
@@ -104,20 +100,11 @@ def asking():
     return len(asks)
 
 
-def is_open(crate, inside):
-    """Whether each module on the way is public in the one that holds it."""
-    for depth, part in enumerate(inside):
-        holder = "/".join(inside[:depth]) or "lib"
-        if f"pub mod {part};" not in (CRATES / crate / "src" / f"{holder}.rt").read_text():
-            return False
-    return True
-
-
 def public():
     """The functions of the libraries that another crate can name."""
     for name, head in functions():
         crate, *inside, _ = name.split("::")
-        if head.startswith("pub ") and is_open(crate, inside):
+        if head.startswith("pub ") and listing.is_open(ROOT, crate, inside):
             yield name
 
 
