@@ -17,39 +17,43 @@ ACCOUNTS = {"0": "0 accounts", "1": "1 account", "3": "32 accounts"}
 
 # a row's title, and what the meter's last table then has, after 1,000 calls on a table with an account
 Row = collections.namedtuple("Row", "title left")
-# Each call by its letter, a capital one for accounts with SHA-1. Port 0 is in front of three others, all for one account; Join finds the three. A port in line
-# is never shut, so Tick has two rows with a line. With an account all are accepted but Enrol at 32 (53). What is left
-# is: ports in line, ticks of the turn (of a challenge its first letter, o), port 0's wrong run, port 3's shut ticks.
+# Each call by its letter, a capital one for accounts with SHA-1. Port 0 is in front of three others, all for one account; Join finds the three; in the
+# rows of four lines each port is in front of its own, and for Leave has been for a tick, so that the turns of the others show that they go on. A port in
+# line is never shut, so Tick has another row with a line. With an account all are accepted but Enrol at 32 (53). What is left is: ports in line (of a
+# challenge its first letter, o), the turns of the first of them and of the fourth, port 0's wrong run, port 3's shut ticks.
 CALLS = {
-    "e": Row("Enrol", "0 0 0 0"),
-    "r": Row("Remove, four ports leave", "0 0 0 0"),
-    "j": Row("Join, as the fourth", "4 60 0 0"),
-    "l": Row("Leave, three behind", "3 60 0 0"),
-    "c": Row("Challenge", "4 111 0 0"),
-    "i": Row("Tick, nobody in line", "0 0 0 0"),
-    "t": Row("Tick, four in line", "4 20 0 0"),
-    "u": Row("Tick, one in line, three shut", "1 20 0 860"),
-    "h": Row("Reply, in hex", "3 60 0 0"),
-    "w": Row("Reply, in words", "3 60 0 0"),
-    "H": Row("Reply, SHA-1, in hex", "3 60 0 0"),
-    "W": Row("Reply, SHA-1, in words", "3 60 0 0"),
-    "n": Row("Renew", "3 60 0 0"),
+    "e": Row("Enrol", "0 0 0 0 0"),
+    "r": Row("Remove, four ports leave", "0 0 0 0 0"),
+    "j": Row("Join, as the fourth", "4 60 60 0 0"),
+    "l": Row("Leave, three behind", "3 60 0 0 0"),
+    "m": Row("Leave, of four lines", "3 59 0 0 0"),
+    "c": Row("Challenge", "111 60 60 0 0"),
+    "i": Row("Tick, nobody in line", "0 0 0 0 0"),
+    "t": Row("Tick, four in one line", "4 20 60 0 0"),
+    "f": Row("Tick, four in four lines", "4 20 20 0 0"),
+    "u": Row("Tick, one in line, three shut", "1 20 0 0 860"),
+    "h": Row("Reply, in hex", "3 60 0 0 0"),
+    "w": Row("Reply, in words", "3 60 0 0 0"),
+    "H": Row("Reply, SHA-1, in hex", "3 60 0 0 0"),
+    "W": Row("Reply, SHA-1, in words", "3 60 0 0 0"),
+    "n": Row("Renew", "3 60 0 0 0"),
 }
 # without an account nobody is in line
-NO_LINE = "0 0 0 0"
-WITH_A_LINE = "tu"
+NO_LINE = "0 0 0 0 0"
+# the rows that are for a line, or for four, with the accounts that it takes
+WITH_LINES = {"t": "13", "u": "13", "f": "3", "m": "3"}
 # Each Reply, with the one hash that it does, to a multiple of which it is held, and what is aimed for; MD5's and SHA-1's
 MD5, SHA1 = "s", "S"
 REPLIES = {"h": (MD5, 5, 3), "w": (MD5, 5, 3), "H": (SHA1, 5, None), "W": (SHA1, 5, None)}
 # those that hash: every other call is held to one hash of MD5 and the copying
 HASHING = [*REPLIES, "n"]
 # the loop without a call, in which the table is only copied, with what that has
-LOOP, FOUND = "x", "4 60 0 0"
+LOOP, FOUND = "x", "4 60 60 0 0"
 
 
 def on(call):
-    """The tables that a call is repeated on: where the row is for a line, those that can have one."""
-    return [accounts for accounts in ACCOUNTS if call not in WITH_A_LINE or accounts != "0"]
+    """The tables that a call is repeated on: where the row is for lines, those that can have them."""
+    return [accounts for accounts in ACCOUNTS if accounts in WITH_LINES.get(call, ACCOUNTS)]
 
 
 def repeated():
@@ -121,15 +125,15 @@ class Port(ctypes.Structure):
 
 
 class Place(ctypes.Structure):
-    _fields_ = [("port", ctypes.c_uint8), ("id", ctypes.c_uint16)]
+    _fields_ = [("port", ctypes.c_uint8), ("room", ctypes.c_uint8), ("turn", ctypes.c_uint8)]
 
 
-class Line(ctypes.Structure):
-    _fields_ = [("places", Place * 4), ("len", ctypes.c_size_t), ("turn", ctypes.c_uint8)]
+class Lines(ctypes.Structure):
+    _fields_ = [("places", Place * 4), ("len", ctypes.c_size_t)]
 
 
 class Table(ctypes.Structure):
-    _fields_ = [("rooms", Account * 32), ("ports", Port * 4), ("line", Line)]
+    _fields_ = [("rooms", Account * 32), ("ports", Port * 4), ("lines", Lines)]
 
 
 def table_bytes():

@@ -250,8 +250,35 @@ def card_program(stdin):
 
 
 class Account:
-    def __init__(self, algorithm, count, seed, password):
+    """02, R-4: with the line of the ports that wait for it, front first, and the ticks left of the front's turn."""
+
+    def __init__(self, *values):
+        self.take(*values)
+        self.line, self.turn = [], 0
+
+    def take(self, algorithm, count, seed, password):
+        """The values of an enrolment or a renewal."""
         self.algorithm, self.count, self.seed, self.password = algorithm, count, seed.lower(), password
+
+    def join(self, port):
+        """To the back; in an empty line the turn starts at once."""
+        if not self.line:
+            self.turn = 60
+        self.line.append(port)
+
+    def leave(self, port):
+        """Whenever the front port leaves, the next starts at 60; nobody: 0."""
+        front = self.line[0] == port
+        self.line.remove(port)
+        if front:
+            self.turn = 60 if self.line else 0
+
+    def tick(self):
+        """While somebody waits the turn falls; at 0 the front port leaves."""
+        if self.line:
+            self.turn -= 1
+            if self.turn == 0:
+                self.leave(self.line[0])
 
 
 class Port:
@@ -260,13 +287,11 @@ class Port:
 
 
 class Table:
-    """A fresh table: no accounts, an empty line and zeros."""
+    """A fresh table: no accounts, and zeros."""
 
     def __init__(self):
         self.accounts = {}
         self.ports = [Port() for _ in range(4)]
-        self.line = []  # (port, id of the account it waits for), front first
-        self.turn = 0
 
     def enrol(self, id, algorithm, count, seed, password):
         """50, 51, 21, 23, 24, 52, 53."""
@@ -279,27 +304,22 @@ class Table:
         self.accounts[id] = Account(algorithm, count, seed, password)
 
     def remove(self, id):
-        """54. Every port in line for that account leaves it."""
+        """54. The account's line goes with it."""
         refuse_if(id not in self.accounts, 54)
         del self.accounts[id]
-        self.take_out(lambda port, waits_for: waits_for == id)
 
     def join(self, port, id):
-        """55, 54, 56, 57, 58. The port goes to the back."""
+        """55, 54, 56, 57, 58. The port goes to the back of the account's line, if it is in no line."""
         refuse_if(port > 3, 55)
         refuse_if(id not in self.accounts, 54)
-        refuse_if(self.is_waiting(port), 56)
+        refuse_if(self.waited_for(port), 56)
         refuse_if(self.ports[port].shut_ticks > 0, 57)
         refuse_if(self.accounts[id].count == 1, 58)
-        if not self.line:
-            self.turn = 60
-        self.line.append((port, id))
+        self.accounts[id].join(port)
 
     def leave(self, port):
         """55, 59."""
-        refuse_if(port > 3, 55)
-        refuse_if(not self.is_waiting(port), 59)
-        self.take_out(lambda leaving, _: leaving == port)
+        self.own_account(port).leave(port)
 
     def challenge(self, port, room):
         """The checks of a turn, then 40. The account's algorithm, stored count less 1 and the seed."""
@@ -323,34 +343,38 @@ class Table:
         check_seed(seed)
         refuse_if(seed.lower() == account.seed, 63)
         self.offer(port, account, read_reply(text))
-        account.__init__(algorithm, count, seed, password)
+        account.take(algorithm, count, seed, password)
         return count
 
     def tick(self):
-        """Shut counts fall, then the turn; at 0 the front port leaves."""
+        """Shut counts fall, then the turn of every line that isn't empty."""
         for port in self.ports:
             port.shut_ticks = max(0, port.shut_ticks - 1)
-        if self.line:
-            self.turn -= 1
-            if self.turn == 0:
-                self.leave(self.line[0][0])
+        for account in self.accounts.values():
+            account.tick()
 
-    def is_waiting(self, port):
-        return any(waiting == port for waiting, _ in self.line)
+    def waited_for(self, port):
+        """The account in whose line the port is; None: in no line."""
+        return next((account for account in self.accounts.values() if port in account.line), None)
+
+    def own_account(self, port):
+        """55, 59: the account in whose line the port is."""
+        refuse_if(port > 3, 55)
+        account = self.waited_for(port)
+        refuse_if(account is None, 59)
+        return account
 
     def account_in_turn(self, port):
-        """55, 59, 60, 58: the account that the front port waits for."""
-        refuse_if(port > 3, 55)
-        refuse_if(not self.is_waiting(port), 59)
-        refuse_if(self.line[0][0] != port, 60)
-        account = self.accounts[self.line[0][1]]
+        """55, 59, 60, 58: the account whose line the port is in front of."""
+        account = self.own_account(port)
+        refuse_if(account.line[0] != port, 60)
         refuse_if(account.count == 1, 58)
         return account
 
     def offer(self, port, account, password):
         """Hash once, by the account's algorithm, and compare: the port leaves either way; 61, or 62 at the third."""
         right = hashed_once(account.algorithm, password) == account.password
-        self.leave(port)
+        account.leave(port)
         record = self.ports[port]
         record.wrong_run = 0 if right else record.wrong_run + 1
         if record.wrong_run == 3:
@@ -358,21 +382,13 @@ class Table:
             raise Refused(62)
         refuse_if(not right, 61)
 
-    def take_out(self, goes):
-        """Whenever the front port leaves, the next starts at 60; nobody: 0."""
-        front = self.line[:1]
-        self.line = [waiting for waiting in self.line if not goes(*waiting)]
-        if self.line[:1] != front:
-            self.turn = 60 if self.line else 0
-
     def dump(self):
-        """The table on a line: accounts by rising id, ports, line, turn."""
+        """The table on a line: accounts by rising id, each with its line and turn; ports."""
         accounts = ",".join(
-            f"{id}:{a.algorithm}:{a.count}:{a.password:016x}:{a.seed.hex()}"
+            f"{id}:{a.algorithm}:{a.count}:{a.password:016x}:{a.seed.hex()}:{'.'.join(map(str, a.line)) or '-'}:{a.turn}"
             for id, a in sorted(self.accounts.items()))
         ports = ",".join(f"{p.wrong_run}:{p.shut_ticks}" for p in self.ports)
-        line = ",".join(f"{port}:{id}" for port, id in self.line)
-        return f"A={accounts or '-'} P={ports} L={line or '-'} T={self.turn}"
+        return f"A={accounts or '-'} P={ports}"
 
 
 # The line format: one call a line, one answer a line

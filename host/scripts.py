@@ -2,9 +2,11 @@
 
 `script(seed, calls)` is the same for the same two numbers. Each call is run on
 the model as it is made, so that the next one can suit the table: the right
-reply of the port whose turn it is, a full table, four ports in line.
+reply of a port that has a turn, a full table, four ports in line. The days come
+in three manners: all ports crowd at one account, they spread over four, or mix.
 """
 import collections
+import itertools
 import random
 
 import harness
@@ -21,6 +23,13 @@ NUMBERS = [10, 11, 12, 13, *range(20, 26), *range(30, 34), 40, *range(50, 64), 7
 TOLD = ["gen", "chal", "wchal", "card", "enrol", "renew"]
 # and those that read a reply
 READERS = ["read", "reply", "renew"]
+# how the ports join: days with seeds one after the other take these in turn
+CROWD, SPREAD, MIX = MANNERS = ("crowd", "spread", "mix")
+# the ways in which four ports can stand in lines: how many in each, the longest first
+WAYS = [(4,), (3, 1), (2, 2), (2, 1, 1), (1, 1, 1, 1)]
+# ticks in one call: as many as a turn has, a line of four waits, a port is shut; each while there is one line, and while there are more
+LONG = [60, 180, 900]
+TICKED = list(itertools.product(LONG, (1, 2)))
 
 
 class Day:
@@ -31,9 +40,11 @@ class Day:
         self.table = model.Table()
         self.lines, self.answers = [], []
         self.accepted = collections.Counter()  # replies and renewals, with the account's algorithm before and after
+        self.ticked = collections.Counter()  # the most of LONG that a call had, with the lines before it, 2 for more
         self.before = {}  # a password -> the one that it is the hash of
         self.long_left = 2  # very long texts and long waits that the script may still have
         self.calls, self.weights = zip(*self.mood())
+        self.manner = MANNERS[seed % len(MANNERS)]
         self.filling = self.rng.choice([0, 0, 33])  # a day in three begins with a full table
 
     def mood(self):
@@ -43,7 +54,7 @@ class Day:
         self.right = rng.choice([0.1, 0.5, 0.8])
         weights = {
             self.enrol: rng.choice([4, 8, 30]), self.remove: rng.choice([1, 1, 6]),
-            self.join: rng.choice([10, 20, 30]), self.leave: rng.choice([1, 2, 4]),
+            self.join: rng.choice([20, 30, 40]), self.leave: rng.choice([1, 2, 4]),
             self.challenge: 4, self.reply: rng.choice([6, 15, 30]), self.renew: rng.choice([3, 8]),
             self.tick: rng.choice([2, 5, 10]), self.dump: 6, self.new: 0.1,
             self.digest: 3, self.gen: 3, self.words: 2, self.hex: 2, self.read: 4, self.chal: 4,
@@ -52,24 +63,33 @@ class Day:
 
     def answer(self, line):
         """The model's answer to one more line."""
-        name, account = line.split(" ")[0], self.front()
+        name, account, lines = line.split(" ")[0], self.account_of(line), len(self.busy())
         before = account and account.algorithm
         self.answers.append(model.answer(self.table, line))
         if name in ("reply", "renew") and self.answers[-1].startswith("ok"):
             self.accepted[name, before, account.algorithm] += 1
+        if name == "tick" and self.answers[-1] == "ok":
+            self.ticked[max([0, *(long for long in LONG if long <= int(line.split(" ")[1]))]), min(lines, 2)] += 1
 
-    def front(self):
-        """The account that the port with the turn waits for."""
-        return self.table.accounts[self.table.line[0][1]] if self.table.line else None
+    def account_of(self, line):
+        """The account in whose line the port of a reply or a renewal is."""
+        words = line.split(" ")
+        return self.table.waited_for(int(words[1])) if words[0] in ("reply", "renew") and words[1:] and words[1].isdecimal() else None
+
+    def busy(self):
+        """The accounts in whose line somebody is."""
+        return [account for account in self.table.accounts.values() if account.line]
 
     def line(self):
-        """One more line, made of the table as it is. Where nobody waits, mostly somebody comes first."""
+        """One more line, made of the table as it is. Where nobody waits, mostly somebody comes first, and where there are few accounts one more."""
         if self.filling > 0:
             self.filling -= 1
             return self.enrol()
         made = self.rng.choices(self.calls, self.weights)[0]
-        if not self.table.line and made in (self.reply, self.renew, self.challenge, self.leave):
+        if not self.busy() and made in (self.reply, self.renew, self.challenge, self.leave):
             made = self.rng.choice([self.join] * 5 + [made])
+        if len(self.table.accounts) < 4 and made == self.join:
+            made = self.rng.choice([self.enrol, made])
         return made()
 
     # words
@@ -86,9 +106,17 @@ class Day:
         return self.rng.choice([*PORTS * 6, 4, 255, 256, 259, 65535])
 
     def port(self):
-        """Mostly the front one; those behind, others, over 3 and over 255 now and then."""
-        front = self.table.line and self.rng.random() < 0.75
-        return self.table.line[0][0] if front else self.any_port()
+        """Mostly in front of some line; anywhere in one, others, over 3 and over 255 now and then."""
+        lines = [account.line for account in self.busy()]
+        chosen = self.rng.choice([*[[line[0] for line in lines]] * 6, sum(lines, []), []])
+        return self.rng.choice(chosen) if chosen else self.any_port()
+
+    def joined_id(self):
+        """Mostly by the day's manner: an account that is waited for, or one that isn't."""
+        accounts = self.table.accounts.items()
+        suit = {CROWD: [id for id, account in accounts if account.line],
+                SPREAD: [id for id, account in accounts if not account.line and account.count > 1], MIX: []}[self.manner]
+        return self.rng.choice(suit) if suit and self.rng.random() < 0.9 else self.id()
 
     def count(self):
         return self.rng.choice([2, 3, 5, *[self.rng.randrange(2, 60)] * 12, 0, 1, 9999, 10000, 65535])
@@ -121,9 +149,11 @@ class Day:
         algorithm, count, seed = self.algorithm(), self.count(), self.seed()
         return algorithm, count, seed, self.chained(algorithm, seed, count)
 
-    def reply_text(self):
-        """The right reply of the port in front, as hex or words; another password; or no password."""
-        account = self.front()
+    def reply_text(self, port):
+        """The right reply of the port, or now and then of another line's, as hex or words; another password; or no password."""
+        account, busy = self.table.waited_for(port), self.busy()
+        if busy and (account is None or self.rng.random() < 0.05):
+            account = self.rng.choice(busy)
         password = self.before.get(account.password) if account else None
         if password is None or self.rng.random() > self.right:
             if self.rng.random() < 0.5:
@@ -156,10 +186,10 @@ class Day:
         return call("remove", self.id())
 
     def join(self):
-        """Mostly a port that doesn't wait yet."""
-        idle = [port for port in PORTS if not self.table.is_waiting(port)]
+        """Mostly a port that doesn't wait yet and isn't shut."""
+        idle = [port for port in PORTS if not self.table.waited_for(port) and not self.table.ports[port].shut_ticks]
         port = self.rng.choice(idle) if idle and self.rng.random() < 0.8 else self.any_port()
-        return call("join", port, self.id())
+        return call("join", port, self.joined_id())
 
     def leave(self):
         return call("leave", self.any_port())
@@ -168,15 +198,17 @@ class Day:
         return call("challenge", self.port(), self.room(self.rng.choice([17, 18])))
 
     def reply(self):
-        return call("reply", self.port(), self.reply_text())
+        port = self.port()
+        return call("reply", port, self.reply_text(port))
 
     def renew(self):
-        return call("renew", self.port(), *self.new_values(), self.reply_text())
+        port = self.port()
+        return call("renew", port, *self.new_values(), self.reply_text(port))
 
     def tick(self):
         if self.long():
             return call("tick", self.rng.choice([5000, 100000]))
-        return call("tick", self.rng.choice([0, 1, 1, 1, 7, 59, 60, 61, 180, 899, 900, 901]))
+        return call("tick", self.rng.choice([0, *[1, 7, 30] * 5, 59, 60, 61, 179, 180, 181, 899, 900, 901]))
 
     def dump(self):
         return "dump"

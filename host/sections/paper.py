@@ -3,7 +3,7 @@ import harness
 import model
 from harness import call
 from model import MD5
-from sections import recorded
+from sections import recorded, recorded_ahead
 
 PHRASE = b"A_Valid_Pass_Phrase"
 CARD = b"99 85c43ee03857765b FOWL KID MASH DEAD DUAL OAF\n"
@@ -19,8 +19,8 @@ def words_example(number, text):
 
 
 def waiting(line, turn):
-    """The table with `Dog2` enrolled as account 1, that line and that turn."""
-    return f"ok A=1:{MD5}:99:0000000000000000:646f6732 P=0:0,0:0,0:0,0:0 L={line} T={turn}"
+    """The table with `Dog2` enrolled as account 1, with that line and that turn."""
+    return f"ok A=1:{MD5}:99:0000000000000000:646f6732:{line}:{turn} P=0:0,0:0,0:0,0:0"
 
 
 EXAMPLES = [
@@ -57,13 +57,13 @@ EXAMPLES = [
     # the empty building
     ("new", "ok"),
     ("tick 60", "ok"),
-    ("dump", "ok A=- P=0:0,0:0,0:0,0:0 L=- T=0"),
+    ("dump", "ok A=- P=0:0,0:0,0:0,0:0"),
     (call("enrol", 1, MD5, 99, b"A Seed", "0" * 16), "no 24"),
     (call("enrol", 1, MD5, 99, b"Dog2", "0" * 16), "ok"),
     ("join 0 1", "ok"),
-    ("dump", waiting("0:1", 60)),
+    ("dump", waiting("0", 60)),
     ("tick 59", "ok"),
-    ("dump", waiting("0:1", 1)),
+    ("dump", waiting("0", 1)),
     ("tick 1", "ok"),
     ("dump", waiting("-", 0)),
 ]
@@ -84,5 +84,6 @@ def examples(driver):
 
 
 def scripts(driver):
-    """Two recorded scripts with answers from elsewhere, which read document 01 alike."""
-    return "; ".join(hold_both_to(driver, *script) for script in recorded.scripts())
+    """Four recorded scripts with answers from elsewhere, which read the documents alike: two of the base, two of the state after R-7."""
+    return "; ".join(f"{recorded.kinds(script)}: {hold_both_to(driver, script.lines, script.answers)}"
+                     for script in [*recorded.scripts(), *recorded_ahead.scripts()])

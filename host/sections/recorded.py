@@ -2,21 +2,47 @@
 
 They stay as they were recorded, with their answers, from a model that isn't ours. R-1 put the algorithm into some lines
 and answers, and made `sha1` a known name: what is recorded is put into that form here. R-2 made 31's place into marks: the
-recorded place has to be that of the first, and the others are our model's. With R-4 a table has no one line for all accounts
-any more; the scripts and this file go then.
+recorded place has to be that of the first, and the others are our model's.
+
+At the base one line served the whole controller. What was recorded is right under R-4 as long as all that wait do so for one account, and no longer:
+from the join that puts a second account in line until a dump shows at most one there, the recorded answers don't apply, and the calls on the table are
+left out, 60 of 1,283 in the one script and 600 of 1,338 in the other. At that dump the recorded table is made anew, by calls of our own with answers of
+our own, and held to the dump: 76 calls, 5 times, in the one script and 1,888, 42 times, in the other. recorded_ahead.py has scripts with several lines
+at once.
 
 Where a challenge named sha1, which the base refused, another unknown name of the same length stands for it: 15 calls of the one script
 and 14 of the other.
 """
+import collections
+
 import model
-from harness import ROOT, Failed
+from harness import ROOT, Failed, call
 
 # the calls that got an algorithm, and the word in front of which it stands
 ALGORITHM_AT = {"gen": 1, "wchal": 1, "enrol": 2, "renew": 2}
 # a name that the base refused and R-1 knows; one of the same length that is refused still
 SHA1, UNKNOWN = b"otp-sha1".hex(), b"otp-sha0".hex()
-# how many calls of each script name it
-RENAMED = {"base_a": 15, "base_b": 14}
+# of each script: how many calls name it, how many are left out, how many of our own make a table anew, and how many times
+Counted = collections.namedtuple("Counted", "renamed left_out made times")
+COUNTED = {"base_a": Counted(15, 60, 76, 5), "base_b": Counted(14, 600, 1888, 42)}
+# a script of today, and of its calls how many make a table anew, and how many times
+Script = collections.namedtuple("Script", "lines answers made times", defaults=(0, 0))
+ON_THE_TABLE = {"new", "enrol", "remove", "join", "leave", "challenge", "reply", "renew", "tick", "dump"}
+# an account that no recorded table has, at which ports give wrong replies
+HELPER, WRONG = 65534, b"0" * 16
+
+# a recorded dump: (id, seed, count, password) of each account, (wrong run, shut ticks) of each port, (port, id) of each that waits, the turn
+Dump = collections.namedtuple("Dump", "accounts ports line turn")
+
+
+def dump_in(answer):
+    parts = [[] if part[2:] == "-" else [entry.split(":") for entry in part[2:].split(",")] for part in answer.split(" ")[1:]]
+    accounts, ports, line, turn = parts
+    return Dump([(int(id), seed, int(count), password) for id, seed, count, password in accounts],
+                [(int(run), int(shut)) for run, shut in ports], [(int(port), int(id)) for port, id in line], int(turn[0][0]))
+
+
+# today's form
 
 
 def call_today(line):
@@ -27,12 +53,11 @@ def call_today(line):
     return " ".join(words)
 
 
-def account_today(shown):
-    """An account of a dump: `id:seed:count:password` as `id:alg:count:password:seed`."""
-    if shown == "-":
-        return shown
-    id, seed, count, password = shown.split(":")
-    return f"{id}:1:{count}:{password}:{seed}"
+def dump_today(dump):
+    """All that wait do so for one account."""
+    lines = {id: ".".join(str(port) for port, _ in dump.line) + f":{dump.turn}" for _, id in dump.line}
+    accounts = ",".join(f"{id}:1:{count}:{password}:{seed}:{lines.get(id, '-:0')}" for id, seed, count, password in dump.accounts)
+    return f"ok A={accounts or '-'} P=" + ",".join(f"{run}:{shut}" for run, shut in dump.ports)
 
 
 def marks_today(text, place):
@@ -50,21 +75,108 @@ def answer_today(line, answer):
         words[2] = marks_today(line.split(" ")[-1], words[2])
     if name == "chal" and words[0] == "ok":
         words.insert(1, "1")
-    if name == "dump" and words[0] == "ok":
-        accounts = words[1].removeprefix("A=").split(",")
-        words[1] = "A=" + ",".join(map(account_today, accounts))
-    return " ".join(words)
+    return dump_today(dump_in(answer)) if name == "dump" else " ".join(words)
 
 
-def renamed(lines):
-    """How many of the calls name sha1."""
-    return sum(SHA1 in line for line in lines)
+# a recorded table, made anew
+
+
+def can_be_made(dump):
+    """At most one account is waited for, it isn't used up, and no port was shut since its front's turn began."""
+    waited = {id for _, id in dump.line}
+    used_up = {id for id, _, count, _ in dump.accounts if count == 1}
+    return len(waited) < 2 and not waited & used_up and all(900 - shut >= passed(dump) for _, shut in dump.ports if shut)
+
+
+def passed(dump):
+    """The ticks since the turn began."""
+    return 60 - dump.turn if dump.line else 0
+
+
+def used_up(id, seed, password):
+    """An account at count 1, by its last reply."""
+    stored = model.hashed_once(model.MD5, int(password, 16))
+    return [(f"enrol {id} 1 2 {seed} {stored:016x}", "ok"), (f"join 0 {id}", "ok"), (call("reply", 0, password.encode()), "ok 1")]
+
+
+def wrong(port, answers):
+    """Wrong replies of a port, with these answers."""
+    for answer in answers:
+        yield from [(f"join {port} {HELPER}", "ok"), (call("reply", port, WRONG), answer)]
+
+
+def records(dump):
+    """The ports' records, up to the ticks since the turn began: those shut first have the fewest ticks left."""
+    shut = sorted((ticks, port) for port, (_, ticks) in enumerate(dump.ports) if ticks)
+    until = [ticks for ticks, _ in shut[1:]] + [900 - passed(dump)]
+    for (ticks, port), next_ticks in zip(shut, until):
+        yield from wrong(port, ["no 61", "no 61", "no 62"])
+        yield f"tick {next_ticks - ticks}", "ok"
+    for port, (run, _) in enumerate(dump.ports):
+        yield from wrong(port, ["no 61"] * run)
+
+
+def made(dump):
+    """Calls that make this table, with their answers."""
+    yield "new", "ok"
+    for id, seed, count, password in dump.accounts:
+        if count == 1:
+            yield from used_up(id, seed, password)
+    yield f"enrol {HELPER} 1 9 61 {'0' * 16}", "ok"
+    yield from records(dump)
+    yield f"remove {HELPER}", "ok"
+    yield from ((f"enrol {id} 1 {count} {seed} {password}", "ok") for id, seed, count, password in dump.accounts if count > 1)
+    yield from ((f"join {port} {id}", "ok") for port, id in dump.line)
+    yield f"tick {passed(dump)}", "ok"
+
+
+# what of a script applies
+
+
+def waiting_after(waiting, line, answer):
+    """Which account each port waits for, by what is recorded. Who may or may not have lost the turn by a tick counts until the next dump."""
+    name, *words = line.split(" ")
+    left = answer == "ok" if name == "leave" else name in ("reply", "renew") and (answer[:2] == "ok" or answer in ("no 61", "no 62"))
+    if name == "dump":
+        return dict(dump_in(answer).line)
+    if name == "join" and answer == "ok":
+        return {**waiting, int(words[0]): int(words[1])}
+    if name == "tick" and int(words[0]) >= 60 * len(waiting):
+        return {}
+    return {port: id for port, id in waiting.items()
+            if not (left and port == int(words[0])) and not (name == "remove" and answer == "ok" and id == int(words[0]))}
+
+
+def table_applies(lines, answers):
+    """Of each call, whether the recorded table is there when it has been answered; made anew at a dump where it wasn't."""
+    waiting, applies = {}, True
+    for line, answer in zip(lines, answers, strict=True):
+        waiting = waiting_after(waiting, line, answer)
+        applies = applies and len(set(waiting.values())) < 2 or line == "dump" and can_be_made(dump_in(answer))
+        yield applies
+
+
+def applying(lines, answers):
+    """For each call that applies, those that make the table before it, where it wasn't there, and the call itself, each with its answer of today."""
+    before = True
+    for line, answer, applies in zip(lines, answers, table_applies(lines, answers)):
+        if applies or line.split(" ")[0] not in ON_THE_TABLE:
+            yield [*made(dump_in(answer))] if applies and not before else [], (call_today(line), answer_today(line, answer))
+        before = applies
 
 
 def scripts():
     """Each script as its calls and answers of today."""
-    for name, count in RENAMED.items():
+    for name, due in COUNTED.items():
         lines, answers = ((ROOT / "host" / "replay" / f"{name}.{kind}").read_text().splitlines() for kind in ("calls", "answers"))
-        if renamed(lines) != count:
-            raise Failed(f"{name}: {renamed(lines)} calls name sha1, not {count}")
-        yield [call_today(line) for line in lines], [answer_today(*pair) for pair in zip(lines, answers, strict=True)]
+        ours, kept = zip(*applying(lines, answers))
+        counted = Counted(sum(SHA1 in line for line in lines), len(lines) - len(kept), sum(map(len, ours)), sum(map(bool, ours)))
+        if counted != due:
+            raise Failed(f"{name}: {counted}, not {due}")
+        yield Script(*zip(*(pair for before, each in zip(ours, kept) for pair in [*before, each])), due.made, due.times)
+
+
+def kinds(script):
+    """How many of its answers were recorded, and how many calls are our own."""
+    anew = f" and {script.made:,} calls that make a table anew, {script.times} times" if script.made else ""
+    return f"{len(script.lines) - script.made:,} recorded answers{anew}"

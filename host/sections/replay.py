@@ -9,7 +9,7 @@ import model
 import scripts
 from harness import ROOT, Failed, call
 from sections import recorded as base
-from sections import replies
+from sections import recorded_ahead, replies
 from sections.passwords import NO_CALLS
 
 PROGRAM = ROOT / "target" / "bin" / "replay"
@@ -19,11 +19,10 @@ MOST = 1 << 20  # bytes of input
 
 def recorded(_driver):
     """The recorded scripts, answered to the byte."""
-    sizes = []
-    for lines, answers in base.scripts():
-        harness.hold_to(lines, harness.asked(PROGRAM, lines), answers)
-        sizes.append(len(lines))
-    return f"{' and '.join(map(str, sizes))} calls: the recorded answers"
+    kept = [*base.scripts(), *recorded_ahead.scripts()]
+    for script in kept:
+        harness.hold_to(script.lines, harness.asked(PROGRAM, script.lines), script.answers)
+    return "; ".join(map(base.kinds, kept))
 
 
 def tally(lines, answers):
@@ -57,6 +56,49 @@ def hold_to_algorithms(accepted):
     return ", ".join(f"{name} {before} to {after}: {accepted[name, before, after]}" for name, before, after in wanted)
 
 
+def lines_in(dump):
+    """How many ports a dump has in each line, the longest first."""
+    accounts = dump.split(" ")[1].removeprefix("A=").split(",")
+    lines = [account.split(":")[5] for account in accounts if account != "-"]
+    return tuple(sorted((line.count(".") + 1 for line in lines if line != "-"), reverse=True))
+
+
+def hold_to_lines(seen):
+    """Fails if no dump has the four ports in lines in some way, or fewer than a tenth have two lines or more."""
+    missing = [way for way in scripts.WAYS if not seen[way]]
+    if missing:
+        raise Failed(f"never in lines of {missing}")
+    several = sum(count for way, count in seen.items() if len(way) > 1)
+    if 10 * several < seen.total():
+        raise Failed(f"{several} of {seen.total()} dumps with two lines or more")
+    return f"{several} of {seen.total()} dumps with two lines or more, " + ", ".join(f"{'+'.join(map(str, way))}: {seen[way]}" for way in scripts.WAYS)
+
+
+def manner_in(ways):
+    """What three in four of the dumps with three ports or more in line have: a line of three, three lines, or neither."""
+    waiting = [way for way in ways.elements() if sum(way) > 2]
+    if 4 * sum(way[0] > 2 for way in waiting) > 3 * len(waiting):
+        return scripts.CROWD
+    if 4 * sum(len(way) > 2 for way in waiting) > 3 * len(waiting):
+        return scripts.SPREAD
+    return scripts.MIX if waiting else None
+
+
+def hold_to_manners(ways):
+    """Fails if the days of some manner don't show it."""
+    wrong = [f"{manner}: {manner_in(ways[manner])}" for manner in scripts.MANNERS if manner_in(ways[manner]) != manner]
+    if wrong:
+        raise Failed(f"manners that aren't as they should be: {', '.join(wrong)}")
+
+
+def hold_to_ticks(ticked):
+    """Fails if no call had as many ticks as a turn, a wait or a shut port takes, while there was one line or while there were more."""
+    missing = [each for each in scripts.TICKED if not ticked[each]]
+    if missing:
+        raise Failed(f"never so many ticks at once, with so many lines: {missing}")
+    return ", ".join(f"{long} ticks or more in one line: {ticked[long, 1]}, in several: {ticked[long, 2]}" for long in scripts.LONG)
+
+
 def stored(_driver):
     """rt ci runs the program on its stored script; here the stored answers are held to the model."""
     script, said = ((ROOT / "crates" / "replay" / name).read_bytes().decode() for name in ("stdin", "stdout"))
@@ -83,7 +125,8 @@ def misread(_driver):
 
 def at_random(driver):
     """Each script on the program; its calls that are in C through the driver too."""
-    seen, accepted, calls, in_c = collections.Counter(), collections.Counter(), 0, 0
+    seen, accepted, ticked, calls, in_c = collections.Counter(), collections.Counter(), collections.Counter(), 0, 0
+    ways = {manner: collections.Counter() for manner in scripts.MANNERS}
     for seed in SEEDS:
         day = scripts.script(seed)
         found = scripts.differences(PROGRAM, day)
@@ -92,13 +135,17 @@ def at_random(driver):
         answered = list(zip(filter(scripts.is_call, day.lines), day.answers))
         seen += tally(*zip(*answered))
         accepted += day.accepted
+        ticked += day.ticked
+        ways[day.manner].update(lines_in(answer) for line, answer in answered if line == "dump")
         lines, answers = zip(*[pair for pair in answered if pair[0].split(" ")[0] in harness.IN_C])
         harness.hold_to(lines, harness.asked(driver, lines), answers)
         calls, in_c = calls + len(answered), in_c + len(lines)
     hold_to_numbers(seen)
+    hold_to_manners(ways)
     numbers = ", ".join(f"{number}: {seen[str(number)]}" for number in scripts.NUMBERS)
     return (f"{len(SEEDS)} scripts, {calls} calls, {in_c} of them through the driver too: same answers as the model "
-            f"(accepted, by algorithm, {hold_to_algorithms(accepted)}; ok: {seen['ok']}, bad: {seen['bad']}, {numbers})")
+            f"({hold_to_lines(sum(ways.values(), collections.Counter()))}; {hold_to_ticks(ticked)}; accepted, by algorithm, {hold_to_algorithms(accepted)}; "
+            f"ok: {seen['ok']}, bad: {seen['bad']}, {numbers})")
 
 
 def printed(stdin):

@@ -1,5 +1,6 @@
 """That the comparison can fail: tests of the tests."""
 import collections
+import itertools
 import pathlib
 import random
 import sys
@@ -83,15 +84,25 @@ def without_each(check, whole):
     return [not fails(check, counted), *(fails(check, collections.Counter(set(whole) - {part})) for part in whole)]
 
 
+def manners():
+    """Days as they should be; those of one manner like another's, or with few ports in line; and without some of the long ticks."""
+    ways = {scripts.CROWD: [(4,), (3, 1)], scripts.SPREAD: [(1, 1, 1), (2, 1, 1)], scripts.MIX: [(3,), (1, 1, 1)], "few": [(2,), (1, 1), ()]}
+    days = {manner: collections.Counter(each) for manner, each in ways.items()}
+    return [not fails(replay.hold_to_manners, days), *without_each(replay.hold_to_ticks, scripts.TICKED),
+            *(fails(replay.hold_to_manners, {**days, one: days[other]}) for one, other in itertools.permutations(days, 2) if one != "few")]
+
+
 def coverage_can_fail(driver):
-    """A run in which some refusal never came, or no reply was accepted under some algorithm, is found; so is one with few challenges, or without
-    some pattern of misread words."""
+    """A run in which some refusal never came, or no reply was accepted under some algorithm, is found; so is one with few challenges, without
+    some pattern of misread words, without some way of four ports in lines, with one line at a time, or with a manner that doesn't show."""
     numbers_given = [*map(str, scripts.NUMBERS), *(f"21 by {name}" for name in scripts.TOLD),
                      *(f"31 with two marks or more by {name}" for name in scripts.READERS)]
     accepted = [("reply", 1, 1), ("reply", 2, 2), ("renew", 1, 1), ("renew", 1, 2), ("renew", 2, 1), ("renew", 2, 2)]
     made = list(replies.patterns(random.Random(64), 20))
     read = [f"ok {number} 1 10 1 12" for number in model.NAMES] * 2000 + [f"no {number}" for number in range(20, 26)]
     found = [*without_each(replay.hold_to_numbers, numbers_given), *without_each(replay.hold_to_algorithms, accepted),
+             *without_each(replay.hold_to_lines, scripts.WAYS), fails(replay.hold_to_lines, collections.Counter([*scripts.WAYS, *[(1,)] * 40])),
+             *manners(),
              not fails(replies.all_patterns, made), fails(replies.all_patterns, [(pattern, text.upper()) for pattern, text in made]),
              *(fails(replies.all_patterns, [each for each in made if each[0] != gone]) for gone in ("000000", "101010")),
              not fails(challenges.enough, read), *(fails(challenges.enough, read[at:][:len(read) - 1]) for at in (0, 1))]

@@ -1,9 +1,8 @@
 -- Laws of rooms and of new values.
-use Prim.Native.Nat.{ℕ, zero, suc, _≤_}
+use Prim.Native.Nat.{ℕ}
 use mathlib.Core.Path.{_≡_, refl, ap}
 use mathlib.Core.List.{List, [], _∷_}
 use native.Mathlib.Omega.{arith}
-use lib.ListN.{length, set}
 use Rattle.text.specs.Tests.{same}
 use Rattle.refusal.specs.declared.Checked.{Checked}
 use Rattle.refusal.specs.Checks.{unless, inOrder}
@@ -30,9 +29,3 @@ values-enrolled number count seed =
     by : (a b : Checked) → (a ≡ Checked.Good → b ≡ Checked.Good) → inOrder (a ∷ b ∷ []) ≡ inOrder (a ∷ [])
     by Checked.Good b f = ap (λ (k : Checked). unless Checked.Refused k Checked.Good) (f refl)
     by (Checked.Refused why) b f = refl
-
--- Past the end nothing is set.
-pub set-past : {A : Type 0} (l : List A) (i : ℕ) (a : A) → length l ≤ i → set l i a ≡ l
-set-past [] i a h = refl
-set-past (x ∷ l) zero a h = absurd (omega arith)
-set-past (x ∷ l) (suc i) a h = ap (λ (t : List _). x ∷ t) (set-past l i a (omega arith))

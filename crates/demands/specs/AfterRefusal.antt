@@ -16,7 +16,7 @@ use Rattle.grounds.specs.Listed.{isIn}
 use Rattle.grounds.specs.WrongReplies.{wrong-reply}
 
 -- "the port leaves and its wrong run grows by 1, answer 61; at 3 the run is cleared, shut ticks become 900, answer 62": on every table these
--- two answer a wrong reply, of Reply or Renew, and change the port's own record and the line. No account is changed.
+-- two answer a wrong reply, of Reply or Renew, and change the port's own record and its line. No account is changed.
 pub wrong-reply-changes : (why : Refusal) → isIn (listingOf why .0) (61 ∷ 62 ∷ []) ≡ true
     → (c : Call) (s : State) → answer c s ≡ Answer.Refused why → WrongReply why c s
 wrong-reply-changes why wrong c s e = wrong-reply why wrong c s e
@@ -28,5 +28,5 @@ refused-writer-leaves r text buffer why e = ap (λ (w : Written). leaves w text 
 
 -- So does a refused Challenge.
 pub refused-challenge-leaves : (port : ℕ) (s : State) (buffer : List ℕ) (why : Refusal) → challenge port (length buffer) s ≡ Written.Refused why
-    → leaves (challenge port (length buffer) s) (challengeFor s) buffer ≡ buffer
-refused-challenge-leaves port s buffer why e = refused-writer-leaves (challenge port (length buffer) s) (challengeFor s) buffer why e
+    → leaves (challenge port (length buffer) s) (challengeFor port s) buffer ≡ buffer
+refused-challenge-leaves port s buffer why e = refused-writer-leaves (challenge port (length buffer) s) (challengeFor port s) buffer why e

@@ -1,6 +1,7 @@
--- The letter's third demand, a theorem for each sentence.
+-- The letter's third demand, a theorem for each sentence; R-4: it "speaks of the account's own line, and 180 still holds". `HasTurn p i` says
+-- that the port p is in front of the line of the account i.
 use Prim.Native.Nat.{ℕ, _≤_, _<_}
-use mathlib.Core.Path.{_≡_}
+use mathlib.Core.Path.{_≡_, subst}
 use mathlib.Core.Bool.{true}
 use mathlib.Core.List.{List}
 use lib.ListN.{length}
@@ -9,7 +10,8 @@ use Rattle.text.specs.Tests.{every}
 use Rattle.password.specs.PhraseAndSeed.{phraseChecked}
 use Rattle.password.specs.Algorithm.{numbered, algorithmIn}
 use Rattle.password.specs.Password.{numberOf, password}
-use Rattle.table.specs.Table.{State, accountOf, turnId}
+use Rattle.accounts.specs.Rooms.{Room}
+use Rattle.table.specs.Table.{State, accountOf, lineOf}
 use Rattle.table.specs.declared.Replied.{Replied}
 use Rattle.table.specs.Steps.{join, renew, challengeFor}
 use Rattle.reached.specs.Calls.{Call, after, run}
@@ -18,7 +20,7 @@ use Rattle.reached.specs.Day.{passwordOf, Day}
 use Rattle.grounds.specs.TurnComes.{turn-starts, wait-ends, all-meanwhile, joined-waits, reached-run, reached-after}
 use Rattle.grounds.specs.Keeps.{made}
 use Rattle.grounds.specs.Owned.{call-keeps, turn-keeps, challenge-kept}
-use Rattle.grounds.specs.Answering.{day, day-later, renewed-stored}
+use Rattle.grounds.specs.Answering.{day, day-later, renewed-stored, renew-by-id}
 
 -- "From a fresh table, after any calls, a port that joins successfully has its turn begin by the 180th tick, if its account
 -- isn't removed and the port only looks at its challenge meanwhile, whatever other ports do."
@@ -26,7 +28,7 @@ pub turn-begins : (s : State) → Reached s → (p i : ℕ) → join p i s .answ
     → (later : List Call) → quietMeanwhile p i later (join p i s .state) ≡ true → 180 ≤ ticks later
     → TurnBegins p i 180 later (join p i s .state)
 turn-begins s r p i e later q t =
-    let waits = joined-waits p i s (made s r .standing) e in
+    let waits = joined-waits p i s (made s r) e in
     wait-ends p i later 180 (join p i s .state) (waits .0) (waits .1) (waits .2) q t
 
 -- The same where every later call is quiet.
@@ -35,9 +37,11 @@ pub turn-begins-quiet : (s : State) → Reached s → (p i : ℕ) → join p i s
     → TurnBegins p i 180 calls (join p i s .state)
 turn-begins-quiet s r p i e calls q t = turn-begins s r p i e calls (all-meanwhile p i calls (join p i s .state) q) t
 
--- Whatever call gives a port its turn, on any table, the turn stands at 60 then.
-pub turn-starts-at-60 : (s : State) (c : Call) (p i : ℕ) → (HasTurn p i s → ⊥) → HasTurn p i (after c s) → after c s .line .turn ≡ 60
-turn-starts-at-60 s c p i before now = turn-starts p i c s before now
+-- "Whenever the front port leaves, for any reason, the next one starts at 60. A port that joins an empty line starts at 60 at once":
+-- whatever call gives a port its turn for an account, the turn of that account's line stands at 60 then.
+pub turn-starts-at-60 : (s : State) → Reached s → (c : Call) (p i : ℕ) → (HasTurn p i s → ⊥) → HasTurn p i (after c s)
+    → lineOf i (after c s) .turn ≡ 60
+turn-starts-at-60 s r c p i before now = turn-starts p i c s (made s r) before now
 
 -- "During that turn only its own calls change the account's count or stored password, removal aside": a call that is not the port's
 -- own, or is Challenge, and does not remove the account leaves it as it is, its seed too.
@@ -57,7 +61,7 @@ turn-stays-own s r p i t during q u = turn-keeps p i during s (made s r) t q u
 pub reply-is-accepted : (s : State) → Reached s → (p i : ℕ) → HasTurn p i s → (phrase : List ℕ) → phraseChecked phrase ≡ Checked.Good
     → 1 < accountOf i s .count
     → accountOf i s .password ≡ passwordOf phrase (accountOf i s) (accountOf i s .count)
-    → (buffer : List ℕ) → length (challengeFor s) ≤ length buffer
+    → (buffer : List ℕ) → length (challengeFor p s) ≤ length buffer
     → Day p i phrase buffer s s
 reply-is-accepted s r p i t phrase long unused stored buffer room = day p i phrase buffer s (made s r) t unused long stored room
 
@@ -68,7 +72,7 @@ turn-is-reached s r p i calls = reached-run (join p i s .state) calls (reached-a
 -- The challenge stays the same during the turn.
 pub challenge-stays : (s : State) → Reached s → (p i : ℕ) → HasTurn p i s
     → (during : List Call) → every (quiet p i) during ≡ true → HasTurn p i (run during s)
-    → challengeFor (run during s) ≡ challengeFor s
+    → challengeFor p (run during s) ≡ challengeFor p s
 challenge-stays s r p i t during q u = challenge-kept p i during s (made s r) t q u
 
 -- So the reply may come at any later moment of it: the challenge is read, then others call and ticks pass, and the generator's reply to the
@@ -76,7 +80,7 @@ challenge-stays s r p i t during q u = challenge-kept p i during s (made s r) t 
 pub later-reply-is-accepted : (s : State) → Reached s → (p i : ℕ) → HasTurn p i s → (phrase : List ℕ) → phraseChecked phrase ≡ Checked.Good
     → 1 < accountOf i s .count
     → accountOf i s .password ≡ passwordOf phrase (accountOf i s) (accountOf i s .count)
-    → (buffer : List ℕ) → length (challengeFor s) ≤ length buffer
+    → (buffer : List ℕ) → length (challengeFor p s) ≤ length buffer
     → (during : List Call) → every (quiet p i) during ≡ true → HasTurn p i (run during s)
     → Day p i phrase buffer s (run during s)
 later-reply-is-accepted s r p i t phrase long unused stored buffer room during q u =
@@ -84,8 +88,11 @@ later-reply-is-accepted s r p i t phrase long unused stored buffer room during q
 
 -- R-1, "renewal may change it": after an accepted renewal, also one to another algorithm, whose new password is what a pass-phrase gives with the
 -- new algorithm, seed and count, the account isn't used up and its stored password is what `reply-is-accepted` asks for, in a later turn.
-pub renewal-begins-a-day : (p n number count : ℕ) (seed new text : List ℕ) (s : State) → renew p number count seed new text s .answer ≡ Replied.Accepted n
+pub renewal-begins-a-day : (s : State) → Reached s → (p i : ℕ) → HasTurn p i s
+    → (n number count : ℕ) (seed new text : List ℕ) → renew p number count seed new text s .answer ≡ Replied.Accepted n
     → (phrase : List ℕ) → numberOf new ≡ password (algorithmIn (numbered number)) phrase seed count
-    → (let room = accountOf (turnId s) (renew p number count seed new text s .state) in
+    → (let room = accountOf i (renew p number count seed new text s .state) in
     (1 < room .count) × (room .password ≡ passwordOf phrase room (room .count)))
-renewal-begins-a-day p n number count seed new text s e phrase given = renewed-stored p n number count seed new text s e phrase given
+renewal-begins-a-day s r p i t n number count seed new text e phrase given =
+    subst (λ (room : Room). (1 < room .count) × (room .password ≡ passwordOf phrase room (room .count)))
+    (renew-by-id p i n number count seed new text s (made s r) t e) (renewed-stored p n number count seed new text s e phrase given)

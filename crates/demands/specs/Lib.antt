@@ -1,4 +1,4 @@
--- The letter's demands as theorems: Demand1, Demand2, Demand3, with AfterRefusal, NoAccounts, Tight, OneStep, TablesMade and Examples. Their words
+-- The letter's demands as theorems: Demand1, Demand2, Demand3, with AfterRefusal, NoAccounts, Tight, Isolation, OneStep, TablesMade and Examples. Their words
 -- are in `grounds`, Listed and Conditions, in `reached`, Calls, InTurn, Day and Made, and in `refusal`, Each; how they are proved is in `grounds`.
 pub mod Demand1
 pub mod Demand2
@@ -9,3 +9,4 @@ pub mod NoAccounts
 pub mod AfterRefusal
 pub mod OneStep
 pub mod Demand3
+pub mod Isolation

@@ -1,6 +1,7 @@
 -- The letter's case, a building with no tenants: a table with no account answers every call, for every id, port, text and room.
 use Prim.Native.Nat.{ℕ}
 use mathlib.Core.Path.{_≡_, refl, ap, _∙_}
+use mathlib.Core.Bool.{false}
 use mathlib.Core.List.{List, [], _∷_, map}
 use lib.ListN.{length}
 use Rattle.refusal.specs.declared.Refusal.{Refusal}
@@ -11,13 +12,14 @@ use Rattle.password.specs.PhraseAndSeed.{seedChecked}
 use Rattle.line.specs.Line.{empty}
 use Rattle.port.specs.Port.{cooled}
 use Rattle.accounts.specs.Accounts.{countWithin, newRoom}
-use Rattle.table.specs.Table.{State, withRoom}
+use Rattle.table.specs.Table.{State, lineOf, waits, withAccount}
 use Rattle.table.specs.TableChecks.{idGiven, portKnown, inLine, inFront}
 use Rattle.reached.specs.Calls.{Call, Answer, checkedAnswer, answer, after}
 use Rattle.reached.specs.InTurn.{Reached}
 use Rattle.reached.specs.Equal.{accountsIn}
 use Rattle.grounds.specs.Keeps.{made}
 use Rattle.grounds.specs.WithoutAccounts.{
+  lines-empty,
   nobody-waits,
   turn-outside,
   enrol-first,
@@ -30,13 +32,10 @@ use Rattle.grounds.specs.WithoutAccounts.{
   renew-nobody,
   tick-cools,
 }
-use Rattle.demands.specs.TablesMade.{empty-line-turn-0}
 
--- Nobody is in line then, in a table that calls make.
-pub nobody-in-line : (s : State) → Reached s → accountsIn (s .rooms) ≡ 0 → s .line ≡ empty
-nobody-in-line s r none =
-    let nobody = nobody-waits s (made s r) none in
-    λ i. record { places = nobody i; turn = empty-line-turn-0 s r nobody i }
+-- Nobody is in line then, in a table that calls make, for any account.
+pub nobody-in-line : (s : State) → Reached s → accountsIn (s .rooms) ≡ 0 → ((id : ℕ) → lineOf id s ≡ empty) × ((port : ℕ) → waits port s ≡ false)
+nobody-in-line s r none = (lines-empty s (made s r) none, nobody-waits s (made s r) none)
 
 -- Enrol's own checks, 50, 51, 21, 23 and 24: no id is taken and no table full.
 abbrev pub ownChecks : ℕ → ℕ → ℕ → List ℕ → Checked
@@ -60,14 +59,14 @@ answerWithout Call.Tick = Answer.Done
 -- and the table after it: Enrol takes the first room, a tick lowers the ports' shut ticks, all else is as it was.
 abbrev pub afterWithout : Call → State → State
 afterWithout (Call.Enrol id number count seed password) s =
-    unless (λ why. s) (ownChecks id number count seed) (withRoom 0 (newRoom id number count seed password) s)
+    unless (λ why. s) (ownChecks id number count seed) (withAccount 0 (newRoom id number count seed password) s)
 afterWithout (Call.Remove id) s = s
 afterWithout (Call.Join port id) s = s
 afterWithout (Call.Leave port) s = s
 afterWithout (Call.Challenge port room) s = s
 afterWithout (Call.Reply port text) s = s
 afterWithout (Call.Renew port number count seed password text) s = s
-afterWithout Call.Tick s = record { rooms = s .rooms; ports = map cooled (s .ports); line = s .line }
+afterWithout Call.Tick s = record { rooms = s .rooms; ports = map cooled (s .ports) }
 
 -- So it is in every table that calls make.
 pub empty-answers : (s : State) → Reached s → accountsIn (s .rooms) ≡ 0 → (c : Call) → answer c s ≡ answerWithout c

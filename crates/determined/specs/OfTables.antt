@@ -7,6 +7,7 @@ use Rattle.line.proofs.join.Reads as line-join
 use Rattle.line.proofs.leave.Reads as line-leave
 use Rattle.line.proofs.remove.Reads as line-remove
 use Rattle.line.proofs.tick.Reads as line-tick
+use Rattle.line.proofs.room_of.Reads as room-of
 use Rattle.line.proofs.has.Reads as has
 use Rattle.line.proofs.front_of.Reads as front-of
 use Rattle.port.proofs.tick as lent-tick
@@ -39,7 +40,7 @@ use Rattle.table.specs.Table.{view}
 use Rattle.table.specs.Steps.{settled, answered}
 use Rattle.determined.specs.Determined.{Answers, AnswersSeen, AnswersAndLent, LentByHand, left, one-fact}
 
--- A line is seen as the ports that wait, with their accounts, and the turn.
+-- Lines are seen as the ports that wait for each room's account, front first, and the turn.
 pub line-fresh-determined : AnswersSeen line-fresh.Learnt (λ k y. waiting y)
 line-fresh-determined k a y z e f p q = p ∙ sym q
 
@@ -54,6 +55,9 @@ line-remove-determined k a y z e f p q = p ∙ sym q
 
 pub line-tick-determined : AnswersSeen line-tick.Learnt (λ k y. waiting y)
 line-tick-determined k a y z e f p q = p ∙ sym q
+
+pub room-of-determined : Answers room-of.Learnt
+room-of-determined k a y z e f p q = p ∙ sym q
 
 pub has-determined : Answers has.Learnt
 has-determined k a y z e f p q = p ∙ sym q

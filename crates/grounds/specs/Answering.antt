@@ -6,13 +6,13 @@ use mathlib.Core.Bool.{Bool, true, false, true≢false, cond, _||_}
 use mathlib.Core.List.{List, [], _∷_, _++_, map}
 use borrow.Author.Tests.{le-leb, le-ltb, lt-leb, leb-true}
 use lib.Dec.{leb}
-use lib.ListN.{length, take, drop}
+use lib.ListN.{length, getD, set, take, drop}
 use lib.Seq.{take-at}
 use Rattle.refusal.specs.declared.Checked.{Checked}
 use Rattle.refusal.specs.declared.Reading.{Reading}
 use Rattle.text.specs.Kinds.{isUpper, isLower, isLetter, isDigit, lowerOf}
 use Rattle.text.specs.Tests.{every, cases, both, second-fails}
-use Rattle.text.specs.Put.{front}
+use Rattle.text.specs.Put.{front as put}
 use Rattle.password.specs.PhraseAndSeed.{phraseChecked, plain, seedChecked}
 use Rattle.password.specs.declared.algorithm.Algorithm.{Algorithm}
 use Rattle.password.specs.Algorithm.{algorithmNumber, algorithmName, numbered, algorithmIn}
@@ -28,18 +28,22 @@ use Rattle.reply.specs.Reply.{readingOf}
 use Rattle.readback.specs.ReplyRead.{hex-written-read, words-written-read}
 use Rattle.table.specs.declared.Replied.{Replied}
 use Rattle.accounts.specs.Rooms.{Room}
-use Rattle.table.specs.Table.{State, accountOf, turnId}
+use Rattle.line.specs.Line.{left}
+use Rattle.table.specs.Table.{State, Held, freeRoom, placeOf, accountOf, standsAt, ownRoom, ownAccount, lined}
 use Rattle.table.specs.Steps as Steps
-use Rattle.accounts.specs.Accounts.{lowered}
+use Rattle.accounts.specs.Accounts.{newRoom, lowered}
 use Rattle.table.specs.Steps.{turnChecked, challengeFor, challenge}
 use Rattle.reached.specs.Calls.{Call, run}
 use Rattle.reached.specs.InTurn.{quiet, HasTurn}
-use Rattle.reached.specs.Outcome.{turn-good, turn-holder}
-use Rattle.reached.specs.Day.{passwordOf, Accepts, Day}
-use Rattle.reached.specs.Made.{isKept, Made}
-use Rattle.grounds.specs.Keeps.{account-good, made-run}
-use Rattle.grounds.specs.Owned.{turn-there, turn-keeps, challenge-kept}
-use Rattle.grounds.specs.Replies.{accepted-account, turn-checked, reply-accepted, taken-renews}
+use Rattle.reached.specs.Outcome.{turn-good}
+use Rattle.reached.specs.RoomsFound.{placed-id}
+use Rattle.reached.specs.RoomsChanged.{there-parts, same-place}
+use Rattle.reached.specs.LinesChanged.{lined-place}
+use Rattle.reached.specs.Day.{waitedFor, passwordOf, Accepts, Day}
+use Rattle.reached.specs.Made.{isKept, AccountGood, Made}
+use Rattle.grounds.specs.Keeps.{account-good, made-run, turn-there, turn-account, turn-has}
+use Rattle.grounds.specs.Owned.{turn-keeps, challenge-kept}
+use Rattle.grounds.specs.Replies.{Taken, accepted-account, turn-checked, reply-accepted, reply-taken, taken-renewal, taken-renews}
 
 -- ---- seeds as they are kept
 
@@ -80,75 +84,107 @@ next-hash algorithm phrase seed n h =
     let next : suc (n - 1) ≡ n = omega arith in
     ap (password algorithm phrase seed) next
 
-module _ (p : ℕ) (phrase : List ℕ) (s : State) (checked : turnChecked p s ≡ Checked.Good)
-    (stored : accountOf (turnId s) s .password ≡ passwordOf phrase (accountOf (turnId s) s) (accountOf (turnId s) s .count)) where
+-- The account with that id, where its port stands, after an accepted reply of that port.
+accepted-by-id : (p i : ℕ) (next : Room) (s : State) → standsAt p (s .rooms) ≡ placeOf i (s .rooms) → placeOf i (s .rooms) < length (s .rooms)
+    → next .id ≡ i → accountOf i (Steps.accepted p next s .state) ≡ next
+accepted-by-id p i next s at there same =
+    let held : Held = record { account = next; line = ownRoom p s .line } in
+    let rooms = set (s .rooms) (standsAt p (s .rooms)) held in
+    let place : placeOf i (map (lined (left p)) rooms) ≡ standsAt p (s .rooms) =
+    lined-place (left p) i rooms ∙ ap (λ (k : ℕ). placeOf i (set (s .rooms) k held)) at ∙ same-place i (s .rooms) held same ∙ sym at in
+    ap (λ (k : ℕ). getD (map (lined (left p)) rooms) k freeRoom .account) place
+    ∙ accepted-account p next s (subst (λ (k : ℕ). k < length (s .rooms)) (sym at) there)
+
+-- What an accepted reply or renewal of the port that has the turn for i leaves of that account.
+pub taken-by-id : (p i n : ℕ) (text : Reading) (next : ℕ → Room) (s state : State) → Made s → HasTurn p i s
+    → (r : Taken p n text next s state) → next (r .taken) .id ≡ ownAccount p s .id → waitedFor p s state ≡ accountOf i state
+taken-by-id p i n text next s state m t r same =
+    let at = turn-there p i s m t .3 in
+    let there = there-parts i (s .rooms) (turn-there p i s m t .0) .1 in
+    let id = ap (λ (room : Room). room .id) (turn-account p i s m t) ∙ placed-id i (s .rooms) there in
+    ap (waitedFor p s) (r .left)
+    ∙ accepted-account p (next (r .taken)) s (subst (λ (k : ℕ). k < length (s .rooms)) (sym at) there)
+    ∙ sym (ap (accountOf i) (r .left) ∙ accepted-by-id p i (next (r .taken)) s at there (same ∙ id))
+
+-- The port that has the turn for the account i: where it stands, and what it waits for.
+module _ (p i : ℕ) (phrase : List ℕ) (s : State) (m : Made s) (t : HasTurn p i s) where
+  abbrev at : standsAt p (s .rooms) ≡ placeOf i (s .rooms)
+  at = turn-there p i s m t .3
+
+  abbrev own : ownAccount p s ≡ accountOf i s
+  own = turn-account p i s m t
+
+  there : placeOf i (s .rooms) < length (s .rooms)
+  there = there-parts i (s .rooms) (turn-there p i s m t .0) .1
+
+  with-id : ownAccount p s .id ≡ i
+  with-id = ap (λ (room : Room). room .id) own ∙ placed-id i (s .rooms) there
+
   -- A text that reads as the password one count down is accepted.
-  reads-accepted : (text : List ℕ)
-      → readingOf text ≡ Reading.Password (passwordOf phrase (accountOf (turnId s) s) (accountOf (turnId s) s .count - 1))
-      → Accepts p (turnId s) text (accountOf (turnId s) s .count - 1) (passwordOf phrase (accountOf (turnId s) s) (accountOf (turnId s) s .count - 1)) s
-  reads-accepted text r =
-      let old = accountOf (turnId s) s in
+  reads-accepted : turnChecked p s ≡ Checked.Good → ownAccount p s .password ≡ passwordOf phrase (ownAccount p s) (ownAccount p s .count)
+      → (text : List ℕ) → readingOf text ≡ Reading.Password (passwordOf phrase (ownAccount p s) (ownAccount p s .count - 1))
+      → Accepts p i text (ownAccount p s .count - 1) (passwordOf phrase (ownAccount p s) (ownAccount p s .count - 1)) s
+  reads-accepted checked stored text r =
+      let old = ownAccount p s in
       let w = passwordOf phrase old (old .count - 1) in
       let g = turn-good p s checked in
       let took = reply-accepted p w text s checked r (next-hash (old .algorithm) phrase (old .seed) (old .count) (g .unused) ∙ sym stored) in
-      let with-id : ℕ → Room = λ j. record { id = j; algorithm = old .algorithm; seed = old .seed; count = old .count - 1; password = w } in
       record {
         answered = ap (λ (a : Steps.After Replied). a .answer) took;
         kept =
-            ap (λ (a : Steps.After Replied). accountOf (turnId s) (a .state)) took
-            ∙ accepted-account p (lowered old w) s g (turn-holder p s g) ∙ ap with-id (turn-holder p s g);
+            ap (λ (a : Steps.After Replied). accountOf i (a .state)) took
+            ∙ accepted-by-id p i (lowered old w) s at there with-id
+            ∙ (λ k. record { id = with-id k; algorithm = own k .algorithm; seed = own k .seed; count = old .count - 1; password = w });
       }
 
-module _ (p : ℕ) (phrase buffer : List ℕ) (s : State) (m : Made s) (t : HasTurn p (turnId s) s) where
-  turn-day : 1 < accountOf (turnId s) s .count → phraseChecked phrase ≡ Checked.Good
-      → accountOf (turnId s) s .password ≡ passwordOf phrase (accountOf (turnId s) s) (accountOf (turnId s) s .count)
-      → length (challengeFor s) ≤ length buffer → Day p (turnId s) phrase buffer s s
+  turn-day : (buffer : List ℕ) → 1 < ownAccount p s .count → phraseChecked phrase ≡ Checked.Good
+      → ownAccount p s .password ≡ passwordOf phrase (ownAccount p s) (ownAccount p s .count)
+      → length (challengeFor p s) ≤ length buffer → Day p i phrase buffer s s
   unfolding challenge challengeWrittenBy
-  turn-day unused long stored room =
-      let facts = turn-there p (turnId s) s m t in
-      let old = accountOf (turnId s) s in
+  turn-day buffer unused long stored room =
+      let facts = turn-there p i s m t in
+      let old = ownAccount p s in
       let algorithm = old .algorithm in
       let seed = old .seed in
       let count = old .count - 1 in
-      let good = account-good (turnId s) s (facts .0) (m .good) in
+      let good = subst AccountGood (sym own) (account-good i s (facts .0) (m .good)) in
       let keeps = kept-seed seed (good .seed-kept) in
       let right = seed-checked seed (good .seed-from) (good .seed-to) (keeps .1) in
       let most = good .count-to in
       let low : count ≤ 9999 = omega arith in
-      let checked = turn-checked p s (facts .1) (facts .2) (t .front) (facts .0) unused in
+      let checked = turn-checked p s (facts .1) (facts .2) (turn-has p i s m t) (λ z. there-parts i (s .rooms) (facts .0) .0 (sym with-id ∙ z)) unused in
       let new = password algorithm phrase seed count in
       let small = password-bound algorithm phrase seed count in
-      let written : take (length (challengeFor s)) (front (challengeFor s) buffer) ≡ challengeFor s =
-      take-at (challengeFor s) (drop (length (challengeFor s)) buffer) (length (challengeFor s)) refl in
+      let text = challengeFor p s in
+      let written : take (length text) (put text buffer) ≡ text = take-at text (drop (length text) buffer) (length text) refl in
       let seed-read = ap seedOf written ∙ written-seed-read algorithm seed count right low ∙ keeps .0 in
       record {
-        written = length (challengeFor s);
+        written = length text;
         algorithm = algorithm;
         count = count;
         start = 6 + length (algorithmName algorithm) + widthOf count;
         len = length seed;
-        used = length (challengeFor s);
+        used = length text;
         generated-as = new;
-        challenge-written = rw (checked, right, le-ltb 9999 count low, le-leb (length (challengeFor s)) (length buffer) room);
+        challenge-written = rw (checked, right, le-ltb 9999 count low, le-leb (length text) (length buffer) room);
         challenge-read = ap challengeOf written ∙ written-read algorithm seed count right low;
         password-generated =
             ap (λ (q : List ℕ). generated (algorithmNumber algorithm) phrase q count) seed-read
             ∙ generated-numbered algorithm phrase seed count ∙ generated-good algorithm phrase seed count long right low;
-        algorithm-own = refl;
-        count-less = omega arith;
-        generated-is = refl;
-        hex-accepted = reads-accepted p phrase s checked stored (hexOf new) (hex-written-read new small);
-        words-accepted = reads-accepted p phrase s checked stored (wordsOf new) (words-written-read new small);
+        algorithm-own = ap (λ (r : Room). r .algorithm) own;
+        count-less = omega (arith, ap (λ (r : Room). r .count) own);
+        generated-is = ap (λ (r : Room). passwordOf phrase r count) own;
+        hex-accepted = reads-accepted checked stored (hexOf new) (hex-written-read new small);
+        words-accepted = reads-accepted checked stored (wordsOf new) (words-written-read new small);
       }
 
 pub day : (p i : ℕ) (phrase buffer : List ℕ) (s : State) → Made s → HasTurn p i s → 1 < accountOf i s .count → phraseChecked phrase ≡ Checked.Good
     → accountOf i s .password ≡ passwordOf phrase (accountOf i s) (accountOf i s .count)
-    → length (challengeFor s) ≤ length buffer → Day p i phrase buffer s s
-day p i phrase buffer s m t =
-    subst (λ (j : ℕ). 1 < accountOf j s .count → phraseChecked phrase ≡ Checked.Good
-    → accountOf j s .password ≡ passwordOf phrase (accountOf j s) (accountOf j s .count)
-    → length (challengeFor s) ≤ length buffer → Day p j phrase buffer s s) (t .account)
-    (turn-day p phrase buffer s m (record { front = t .front; account = refl }))
+    → length (challengeFor p s) ≤ length buffer → Day p i phrase buffer s s
+day p i phrase buffer s m t unused long stored room =
+    let same = sym (own p i phrase s m t) in
+    turn-day p i phrase s m t buffer (subst (λ (r : Room). 1 < r .count) same unused) long
+    (subst (λ (r : Room). r .password ≡ passwordOf phrase r (r .count)) same stored) room
 
 -- ---- the challenge now, the reply later
 
@@ -183,7 +219,7 @@ day-then p i phrase buffer s t same now next =
 
 pub day-later : (p i : ℕ) (phrase buffer : List ℕ) (s : State) → Made s → HasTurn p i s → 1 < accountOf i s .count → phraseChecked phrase ≡ Checked.Good
     → accountOf i s .password ≡ passwordOf phrase (accountOf i s) (accountOf i s .count)
-    → length (challengeFor s) ≤ length buffer
+    → length (challengeFor p s) ≤ length buffer
     → (during : List Call) → every (quiet p i) during ≡ true → HasTurn p i (run during s) → Day p i phrase buffer s (run during s)
 day-later p i phrase buffer s m t unused long stored room during q u =
     let same = turn-keeps p i during s m t q u in
@@ -218,7 +254,7 @@ kept-passwords algorithm phrase seed (suc n) = ap (λ (w : ℕ). hash algorithm 
 -- Where the new password is what the pass-phrase gives with the new values, the account has what the pass-phrase gives.
 pub renewed-stored : (p n number count : ℕ) (seed new text : List ℕ) (s : State) → Steps.renew p number count seed new text s .answer ≡ Replied.Accepted n
     → (phrase : List ℕ) → numberOf new ≡ password (algorithmIn (numbered number)) phrase seed count
-    → (let room = accountOf (turnId s) (Steps.renew p number count seed new text s .state) in
+    → (let room = waitedFor p s (Steps.renew p number count seed new text s .state) in
     (1 < room .count) × (room .password ≡ passwordOf phrase room (room .count)))
 renewed-stored p n number count seed new text s e phrase given =
     let renewed = taken-renews p n number count seed new text s e .1 in (
@@ -226,3 +262,17 @@ renewed-stored p n number count seed new text s e phrase given =
       subst (λ (room : Room). room .password ≡ passwordOf phrase room (room .count)) (sym (renewed .becomes))
           (given ∙ kept-passwords (algorithmIn (numbered number)) phrase seed count),
     )
+
+-- ---- by the account's id
+
+pub reply-by-id : (p i n : ℕ) (text : List ℕ) (s : State) → Made s → HasTurn p i s → Steps.reply p text s .answer ≡ Replied.Accepted n
+    → waitedFor p s (Steps.reply p text s .state) ≡ accountOf i (Steps.reply p text s .state)
+reply-by-id p i n text s m t e =
+    taken-by-id p i n (readingOf text) (lowered (ownAccount p s)) s (Steps.reply p text s .state) m t (reply-taken p n text s e) refl
+
+pub renew-by-id : (p i n number count : ℕ) (seed new text : List ℕ) (s : State) → Made s → HasTurn p i s
+    → Steps.renew p number count seed new text s .answer ≡ Replied.Accepted n
+    → waitedFor p s (Steps.renew p number count seed new text s .state) ≡ accountOf i (Steps.renew p number count seed new text s .state)
+renew-by-id p i n number count seed new text s m t e =
+    taken-by-id p i n (readingOf text) (λ w. newRoom (ownAccount p s .id) number count seed new) s (Steps.renew p number count seed new text s .state) m t
+    (taken-renewal p n number count seed new text s e) refl

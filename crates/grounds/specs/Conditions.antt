@@ -24,9 +24,8 @@ use Rattle.challenge.specs.Challenges.{opening, tokenAt, endOf, countAt, seedAt
 use Rattle.cards.specs.CardChecks.{countOf}
 use Rattle.cards.specs.Cards.{cardOf}
 use Rattle.cards.specs.Printed.{firstLine, keptLine, pastLine, linesAsked}
-use Rattle.line.specs.Line.{standsIn}
 use Rattle.accounts.specs.Rooms.{Room}
-use Rattle.table.specs.Table.{State, isThere, accountOf, portOf, hasTurn, turnId}
+use Rattle.table.specs.Table.{State, isThere, accountOf, portOf, waits, ownAccount, hasTurn}
 use Rattle.table.specs.Steps.{challengeFor}
 use Rattle.reached.specs.Calls.{Call}
 use Rattle.reached.specs.Equal.{accountsIn}
@@ -153,9 +152,9 @@ valuesRows number count seed present =
 abbrev pub turnRows : ℕ → State → List Row
 turnRows port s =
     (55, ltb 3 port) ∷
-    (59, not (standsIn port (s .line))) ∷
+    (59, not (waits port s)) ∷
     (60, not (hasTurn port s)) ∷
-    (58, eqb (accountOf (turnId s) s .count) 1) ∷ []
+    (58, eqb (ownAccount port s .count) 1) ∷ []
 
 -- The password that a text was read as.
 abbrev pub said : Reading → ℕ
@@ -163,8 +162,8 @@ said (Reading.Password password) = password
 said (Reading.Refused why) = 0
 
 -- "Hash the password once", by the account's algorithm: it does not equal the stored one.
-abbrev pub isWrong : List ℕ → State → Bool
-isWrong text s = not (eqb (hash (accountOf (turnId s) s .algorithm) (bytesOf (said (readingOf text)))) (accountOf (turnId s) s .password))
+abbrev pub isWrong : ℕ → List ℕ → State → Bool
+isWrong port text s = not (eqb (hash (ownAccount port s .algorithm) (bytesOf (said (readingOf text)))) (ownAccount port s .password))
 
 -- Two wrong replies stand in the port's run, so that one more is the third.
 abbrev pub isThird : ℕ → State → Bool
@@ -173,8 +172,8 @@ isThird port s = eqb (portOf port s .wrong) 2
 -- 61 and 62: "wrong reply, third wrong in a row"
 abbrev pub wrongRows : ℕ → List ℕ → State → List Row
 wrongRows port text s =
-    (61, isWrong text s && not (isThird port s)) ∷
-    (62, isWrong text s && isThird port s) ∷ []
+    (61, isWrong port text s && not (isThird port s)) ∷
+    (62, isWrong port text s && isThird port s) ∷ []
 
 -- "Checks run in the order given."
 abbrev pub conditionsOf : Call → State → List Row
@@ -190,22 +189,22 @@ conditionsOf (Call.Remove id) s =
 conditionsOf (Call.Join port id) s =
     (55, ltb 3 port) ∷
     (54, not (isThere id s)) ∷
-    (56, standsIn port (s .line)) ∷
+    (56, waits port s) ∷
     (57, not (eqb (portOf port s .shut) 0)) ∷
     (58, eqb (accountOf id s .count) 1) ∷ []
 conditionsOf (Call.Leave port) s =
     (55, ltb 3 port) ∷
-    (59, not (standsIn port (s .line))) ∷ []
+    (59, not (waits port s)) ∷ []
 conditionsOf (Call.Challenge port room) s =
     turnRows port s
-    ++ roomRows room (challengeFor s)
+    ++ roomRows room (challengeFor port s)
 conditionsOf (Call.Reply port text) s =
     turnRows port s
     ++ replyRows text
     ++ wrongRows port text s
 conditionsOf (Call.Renew port number count seed password text) s =
     turnRows port s
-    ++ valuesRows number count seed (accountOf (turnId s) s)
+    ++ valuesRows number count seed (ownAccount port s)
     ++ replyRows text
     ++ wrongRows port text s
 conditionsOf Call.Tick s = []

@@ -18,12 +18,7 @@ use Rattle.table.specs.TableChecks.{idGiven, idNew, roomLeft, accountThere}
 use Rattle.table.specs.Steps.{refused, done, enrolChecked, enrol, remove}
 use Rattle.reached.specs.Equal.{accountsIn, Housed}
 use Rattle.reached.specs.Laws.{full-exactly, removed-room-left}
-use Rattle.reached.specs.Made.{Made}
-use Rattle.reached.specs.RoomsFound.{apart-once}
 use Rattle.grounds.specs.Never.{test, ofAlgorithm, ofSeed, rows-never}
-
-pub housed : (s : State) → Made s → Housed s
-housed s m = record { all = m .room-count; once = apart-once (s .rooms) (m .apart) }
 
 -- What a call answers that is done if its checks find nothing wrong.
 pub settled-answer : (s s′ : State) (check : Checked) → unless (refused s) check (done s′) .answer ≡ check

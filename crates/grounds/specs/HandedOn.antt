@@ -13,7 +13,7 @@ use Rattle.refusal.specs.Checks.{unless}
 use Rattle.reply.specs.Reply.{readingOf}
 use Rattle.accounts.specs.Accounts.{lowered, newRoom}
 use Rattle.table.specs.declared.Replied.{Replied}
-use Rattle.table.specs.Table.{State, accountOf, turnId}
+use Rattle.table.specs.Table.{State, ownAccount}
 use Rattle.table.specs.Steps as Steps
 use Rattle.table.specs.Steps.{After, replyRefused, turnChecked, renewChecked, read}
 use Rattle.reached.specs.Calls.{Call, Answer, repliedAnswer, answer}
@@ -46,7 +46,7 @@ module _ (why : Refusal) (own : isIn (listingOf why .0) thirties ≡ true) (othe
   unfolding Steps.reply Steps.replyRead
   reply-hands-on port text s =
       handed-on s (turnChecked port s) (turn-never thirties why own port s refl) (readingOf text) _
-      (λ w. offered-other why other port w (lowered (accountOf (turnId s) s) w) s)
+      (λ w. offered-other why other port w (lowered (ownAccount port s) w) s)
 
   pub renew-hands-on : (port number count : ℕ) (seed new text : List ℕ) (s : State)
       → (answer (Call.Renew port number count seed new text) s ≡ Answer.Refused why)
@@ -54,4 +54,4 @@ module _ (why : Refusal) (own : isIn (listingOf why .0) thirties ≡ true) (othe
   unfolding Steps.renew Steps.renewRead
   renew-hands-on port number count seed new text s =
       handed-on s (renewChecked port number count seed s) (renew-never thirties why own port number count seed s refl refl) (readingOf text) _
-      (λ w. offered-other why other port w (newRoom (accountOf (turnId s) s .id) number count seed new) s)
+      (λ w. offered-other why other port w (newRoom (ownAccount port s .id) number count seed new) s)

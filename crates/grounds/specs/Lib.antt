@@ -3,6 +3,7 @@ pub mod Listed
 pub mod Conditions
 pub mod Standing
 pub mod Few
+pub mod HeldAfter
 pub mod Moved
 pub mod Wait
 pub mod WaitFalls
@@ -10,6 +11,7 @@ pub mod Starts
 pub mod TurnComes
 pub mod Keeps
 pub mod Owned
+pub mod Isolated
 pub mod Replies
 pub mod Answering
 pub mod Exactly

@@ -9,17 +9,18 @@ use mathlib.Core.List.{List, [], _∷_, _++_}
 use borrow.Author.Tests.{not-true}
 use lib.ListN.{replicate}
 use Rattle.refusal.specs.declared.Checked.{Checked}
-use Rattle.text.specs.Tests.{every, every-at}
+use Rattle.text.specs.Tests.{every, every-at, every-weaker}
 use Rattle.digests.specs.Lists.{upTo, length-upTo, getD-upTo}
 use Rattle.password.specs.PhraseAndSeed.{plain}
 use Rattle.password.specs.declared.algorithm.Algorithm.{Algorithm}
 use Rattle.password.specs.Algorithm.{algorithmNumber}
-use Rattle.line.specs.Line.{some, joined, others, turnWithout, without, ticked}
-use Rattle.accounts.specs.Rooms.{placeOf}
-use Rattle.table.specs.Table.{fresh, hasTurn}
-use Rattle.table.specs.Steps.{enrolChecked, enrol, joinChecked, join, tick}
+use Rattle.line.specs.Line.{Waiting, some, frontOf, ticked}
+use Rattle.table.specs.Table.{State, Held, fresh, placeOf, lineOf, inLines, standsAt, isFront}
+use Rattle.table.specs.Steps.{enrolChecked, enrol, joinChecked, joins, join, tick}
 use Rattle.reached.specs.Calls.{Call, run}
-use Rattle.reached.specs.InTurn.{tickOf, ticks, TurnBegins}
+use Rattle.reached.specs.InTurn.{tickOf, ticks, hasTurnFor, TurnBegins}
+use Rattle.line.specs.Laws.{ticked-empty}
+use Rattle.grounds.specs.HeldAfter.{found-lined}
 
 -- An account, of either algorithm, and three ports in line for it.
 abbrev pub threeWait : Algorithm → List Call
@@ -28,18 +29,57 @@ threeWait algorithm =
 
 -- So many ticks after the fourth has joined, it has the turn.
 unfoldable pub hasTurnAfter : Algorithm → ℕ → Bool
-hasTurnAfter algorithm n = hasTurn 3 (run (replicate n Call.Tick) (join 3 1 (run (threeWait algorithm) fresh) .state))
+hasTurnAfter algorithm n = hasTurnFor 3 1 (run (replicate n Call.Tick) (join 3 1 (run (threeWait algorithm) fresh) .state))
 
+-- The fourth joins.
 pub fourth-joins : (algorithm : Algorithm) → join 3 1 (run (threeWait algorithm) fresh) .answer ≡ Checked.Good
-unfolding run enrol enrolChecked join joinChecked joined some placeOf plain every
+unfolding run enrol enrolChecked join joinChecked joins some placeOf standsAt inLines plain every
 fourth-joins Algorithm.Md5 = refl
 fourth-joins Algorithm.Sha1 = refl
 
+-- The line of the account then.
+abbrev four : Waiting
+four = record { ports = 0 ∷ 1 ∷ 2 ∷ 3 ∷ []; turn = 60 }
+
+-- So the calls make it.
+four-wait : (algorithm : Algorithm) → lineOf 1 (join 3 1 (run (threeWait algorithm) fresh) .state) ≡ four
+unfolding run enrol enrolChecked join joinChecked joins some placeOf standsAt inLines plain every
+four-wait Algorithm.Md5 = refl
+four-wait Algorithm.Sha1 = refl
+
+-- A line after so many ticks.
+tickedTimes : ℕ → Waiting → Waiting
+tickedTimes zero w = w
+tickedTimes (suc n) w = tickedTimes n (ticked w)
+
+-- So are the lines of a table.
+ticks-line : (n i : ℕ) (s : State) → lineOf i (run (replicate n Call.Tick) s) ≡ tickedTimes n (lineOf i s)
+unfolding run tick tickedTimes
+ticks-line zero i s = refl
+ticks-line (suc n) i s =
+    ticks-line n i (tick s) ∙ ap (λ (held : Held). tickedTimes n (held .line)) (found-lined ticked ticked-empty i (s .rooms))
+
+-- Whether the fourth has the turn, by that line.
+turn-after : (algorithm : Algorithm) (n : ℕ) → hasTurnAfter algorithm n ≡ isFront 3 (frontOf (tickedTimes n four))
+unfolding hasTurnAfter
+turn-after algorithm n =
+    ap (λ (w : Waiting). isFront 3 (frontOf w))
+    (ticks-line n 1 (join 3 1 (run (threeWait algorithm) fresh) .state) ∙ ap (tickedTimes n) (four-wait algorithm))
+
+-- Computed: not after 0 to 179 ticks, and then after 180.
+line-waits : (every (λ n. not (isFront 3 (frontOf (tickedTimes n four)))) (upTo 180 (λ n. n)) ≡ true)
+    × (isFront 3 (frontOf (tickedTimes 180 four)) ≡ true)
+unfolding every upTo tickedTimes ticked
+line-waits = (refl, refl)
+
+-- So it is in the table.
 pub waits-180-ticks : (algorithm : Algorithm)
     → (every (λ n. not (hasTurnAfter algorithm n)) (upTo 180 (λ n. n)) ≡ true) × (hasTurnAfter algorithm 180 ≡ true)
-unfolding hasTurnAfter every upTo run enrol enrolChecked join joinChecked joined some placeOf plain tick ticked others turnWithout without
-waits-180-ticks Algorithm.Md5 = (refl, refl)
-waits-180-ticks Algorithm.Sha1 = (refl, refl)
+waits-180-ticks algorithm = (
+  every-weaker (λ n. not (isFront 3 (frontOf (tickedTimes n four)))) (λ n. not (hasTurnAfter algorithm n))
+      (λ n e. ap not (turn-after algorithm n) ∙ e) (upTo 180 (λ n. n)) (line-waits .0),
+  turn-after algorithm 180 ∙ line-waits .1,
+)
 
 -- ---- in the words of the demand
 
@@ -56,6 +96,7 @@ front-ticks (suc n) (c ∷ early) late e =
     ap (λ (d : Call). tickOf d + ticks early) first ∙ add-comm 1 (ticks early) ∙ add-one (ticks early) in
     rw more (rw first (ap (λ (l : List Call). Call.Tick ∷ l) tail))
 
+-- Not after any number up to 179.
 too-soon : (algorithm : Algorithm) (n : ℕ) → n ≤ 179 → hasTurnAfter algorithm n ≡ true → ⊥
 too-soon algorithm n h e =
     let each = every-at (λ n. not (hasTurnAfter algorithm n)) (upTo 180 (λ n. n)) 0 (waits-180-ticks algorithm .0) n
@@ -69,4 +110,4 @@ unfolding hasTurnAfter
 not-sooner algorithm b =
     let same = front-ticks 180 (b .early) (b .late) (b .parted) in
     too-soon algorithm (ticks (b .early)) (b .soon)
-    (ap (λ (l : List Call). hasTurn 3 (run l (join 3 1 (run (threeWait algorithm) fresh) .state))) (sym same) ∙ b .turn .front)
+    (ap (λ (l : List Call). hasTurnFor 3 1 (run l (join 3 1 (run (threeWait algorithm) fresh) .state))) (sym same) ∙ b .turn)

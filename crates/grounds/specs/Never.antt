@@ -5,7 +5,7 @@ use mathlib.Core.Path.{_≡_, sym, ap, _∙_}
 use mathlib.Core.Bool.{Bool, true, false, true≢false, cond, not, _&&_}
 use mathlib.Core.List.{List, [], _∷_, map}
 use borrow.Author.Tests.{not-true}
-use lib.Dec.{leb, ltb}
+use lib.Dec.{eqb, leb, ltb}
 use lib.ListN.{length}
 use Rattle.refusal.specs.declared.Refusal.{Refusal}
 use Rattle.refusal.specs.declared.Checked.{Checked}
@@ -16,8 +16,7 @@ use Rattle.text.specs.Tests.{both, same}
 use Rattle.password.specs.declared.algorithm.Named.{Named}
 use Rattle.password.specs.Algorithm.{numbered, algorithmChecked}
 use Rattle.password.specs.PhraseAndSeed.{plain, seedChecked}
-use Rattle.line.specs.Line.{standsIn}
-use Rattle.table.specs.Table.{State, isThere, accountOf, hasTurn, turnId}
+use Rattle.table.specs.Table.{State, waits, ownAccount, hasTurn}
 use Rattle.table.specs.Steps.{turnChecked, renewChecked}
 use Rattle.grounds.specs.Listed.{isIn}
 
@@ -45,13 +44,13 @@ others numbers (Test.ofSeed text ∷ rows) = other numbers Refusal.SeedLength &&
 -- The checks of the port that has the turn, and those of a renewal's new values.
 abbrev pub turnTests : ℕ → State → List Test
 turnTests port s =
-    test (leb port 3) Refusal.PortUnknown ∷ test (standsIn port (s .line)) Refusal.PortNotInLine ∷ test (hasTurn port s) Refusal.PortNotInFront
-    ∷ test (isThere (turnId s) s) Refusal.AccountMissing ∷ test (ltb 1 (accountOf (turnId s) s .count)) Refusal.AccountUsedUp ∷ []
+    test (leb port 3) Refusal.PortUnknown ∷ test (waits port s) Refusal.PortNotInLine ∷ test (hasTurn port s) Refusal.PortNotInFront
+    ∷ test (not (eqb (ownAccount port s .id) 0)) Refusal.AccountMissing ∷ test (ltb 1 (ownAccount port s .count)) Refusal.AccountUsedUp ∷ []
 
-abbrev pub valuesTests : ℕ → ℕ → List ℕ → State → List Test
-valuesTests number count seed s =
+abbrev pub valuesTests : ℕ → ℕ → ℕ → List ℕ → State → List Test
+valuesTests port number count seed s =
     test (leb 2 count && leb count 9999) Refusal.CountOutside ∷ ofAlgorithm (numbered number) ∷ ofSeed seed
-    ∷ test (not (same (map lowerOf seed) (accountOf (turnId s) s .seed))) Refusal.SeedSame ∷ []
+    ∷ test (not (same (map lowerOf seed) (ownAccount port s .seed))) Refusal.SeedSame ∷ []
 
 module _ (numbers : List ℕ) (why : Refusal) (own : isIn (listingOf why .0) numbers ≡ true) where
   abbrev pub Never : Checked → Type 0
@@ -105,8 +104,8 @@ module _ (numbers : List ℕ) (why : Refusal) (own : isIn (listingOf why .0) num
   turn-never port s h = rows-never (turnTests port s) h
 
   pub renew-never : (port number count : ℕ) (seed : List ℕ) (s : State) → others numbers (turnTests port s) ≡ true
-      → others numbers (valuesTests number count seed s) ≡ true → Never (renewChecked port number count seed s)
+      → others numbers (valuesTests port number count seed s) ≡ true → Never (renewChecked port number count seed s)
   unfolding renewChecked
   renew-never port number count seed s h k =
-      then-never (turnChecked port s) (inOrder (map checkOf (valuesTests number count seed s))) (turn-never port s h)
-      (rows-never (valuesTests number count seed s) k)
+      then-never (turnChecked port s) (inOrder (map checkOf (valuesTests port number count seed s))) (turn-never port s h)
+      (rows-never (valuesTests port number count seed s) k)

@@ -20,18 +20,16 @@ use Rattle.password.specs.Algorithm.{numbered, algorithmChecked}
 use Rattle.password.specs.Password.{bytesOf, hash}
 use Rattle.challenge.specs.Challenges.{challengeWrittenBy}
 use Rattle.reply.specs.Reply.{readingOf}
-use Rattle.line.specs.Line.{standsIn}
 use Rattle.port.specs.declared.Port.{Port}
-use Rattle.accounts.specs.Rooms.{Room, holds}
+use Rattle.accounts.specs.Rooms.{Room}
 use Rattle.accounts.specs.Accounts.{lowered, newRoom, valuesChecked}
 use Rattle.table.specs.declared.Replied.{Replied}
-use Rattle.table.specs.Table.{State, freshPort, isThere, accountOf, portOf, hasTurn, turnId}
-use Rattle.table.specs.TableChecks.{accountThere}
+use Rattle.table.specs.Table.{State, Held, freshPort, holds, isThere, accountOf, portOf, standsAt, waits, ownAccount, hasTurn}
+use Rattle.table.specs.TableChecks.{accountHeld}
 use Rattle.table.specs.Steps as Steps
 use Rattle.table.specs.Steps.{After, refused, replyRefused, enrolChecked, joinChecked, leaveChecked, turnChecked, renewChecked, challengeFor}
 use Rattle.table.specs.Steps.{offered, read}
 use Rattle.reached.specs.Calls.{Call, checkedAnswer, repliedAnswer, answer, numbers}
-use Rattle.reached.specs.InTurn.{HasTurn}
 use Rattle.reached.specs.Made.{Made, PortGood}
 use Rattle.reached.specs.Equal.{times, accountsIn}
 use Rattle.reached.specs.RoomsFound.{holds-times, accounts-free}
@@ -50,8 +48,7 @@ use Rattle.grounds.specs.Refusing.{
   room-rows,
   reply-rows,
 }
-use Rattle.grounds.specs.Keeps.{account-good}
-use Rattle.grounds.specs.Owned.{turn-there}
+use Rattle.grounds.specs.Keeps.{held-good, account-good, has-turn}
 use Rattle.grounds.specs.Answering.{kept-seed, seed-checked}
 
 -- ---- the paper's words, in such tables
@@ -64,7 +61,7 @@ used-up count h =
     (λ e. let few = ltb-false 1 count e in ap not e ∙ sym (eq-eqb count 1 (omega arith)))
 
 -- "53 is given exactly when 32 accounts are there"
-full : (rooms : List Room) → length rooms ≡ 32 → not (holds 0 rooms) ≡ eqb (accountsIn rooms) 32
+full : (rooms : List Held) → length rooms ≡ 32 → not (holds 0 rooms) ≡ eqb (accountsIn rooms) 32
 full rooms h =
     let all = accounts-free rooms in
     ap not (holds-times 0 rooms)
@@ -118,7 +115,7 @@ join-rows port id s m =
     behind settledChecked (refused s) (λ why. refl) _ _ (conditionsOf (Call.Join port id) s) []
     (then-test (leb port 3) _ Refusal.PortUnknown _ _ (not-leb port 3)
     (λ a. then-test (isThere id s) _ Refusal.AccountMissing _ _ refl
-    (λ b. then-test (not (standsIn port (s .line))) _ Refusal.PortInLine _ _ (Bool·not-not (standsIn port (s .line)))
+    (λ b. then-test (not (waits port s)) _ Refusal.PortInLine _ _ (Bool·not-not (waits port s))
     (λ c. then-test (eqb (portOf port s .shut) 0) _ Refusal.PortShut _ _ refl
     (λ d. then-test (ltb 1 (accountOf id s .count)) _ Refusal.AccountUsedUp _ _
     (used-up (accountOf id s .count) (account-good id s b (m .good) .count-from)) (λ e. no-rows Checked.Good refl))))))
@@ -129,7 +126,7 @@ unfolding Steps.leave leaveChecked
 leave-rows port s =
     behind settledChecked (refused s) (λ why. refl) _ _ (conditionsOf (Call.Leave port) s) []
     (then-test (leb port 3) _ Refusal.PortUnknown _ _ (not-leb port 3)
-    (λ a. then-test (standsIn port (s .line)) _ Refusal.PortNotInLine _ _ refl (λ b. no-rows Checked.Good refl)))
+    (λ a. then-test (waits port s) _ Refusal.PortNotInLine _ _ refl (λ b. no-rows Checked.Good refl)))
     (λ e. no-rows Checked.Good refl)
 
 -- ---- Challenge, Reply and Renew
@@ -139,15 +136,14 @@ turn-rows : (port : ℕ) (s : State) → Made s → Follows (turnChecked port s)
 unfolding turnChecked
 turn-rows port s m =
     then-test (leb port 3) _ Refusal.PortUnknown _ _ (not-leb port 3)
-    (λ a. then-test (standsIn port (s .line)) _ Refusal.PortNotInLine _ _ refl
+    (λ a. then-test (waits port s) _ Refusal.PortNotInLine _ _ refl
     (λ b. then-test (hasTurn port s) _ Refusal.PortNotInFront _ _ refl
     (λ c.
-    let turn : HasTurn port (turnId s) s = record { front = c; account = refl } in
-    let there = turn-there port (turnId s) s m turn .0 in
-    let good = account-good (turnId s) s there (m .good) in
-    then-check (accountThere (turnId s) s) _ [] _ (no-rows _ (must-true Refusal.AccountMissing there))
-    (λ d. then-test (ltb 1 (accountOf (turnId s) s .count)) _ Refusal.AccountUsedUp _ _
-    (used-up (accountOf (turnId s) s .count) (good .count-from)) (λ e. no-rows Checked.Good refl)))))
+    let there = has-turn port s m c .1 in
+    then-check (accountHeld (ownAccount port s)) _ [] _
+    (no-rows _ (must-true Refusal.AccountMissing (ap not (ne-eqb (ownAccount port s .id) 0 there))))
+    (λ d. then-test (ltb 1 (ownAccount port s .count)) _ Refusal.AccountUsedUp _ _
+    (used-up (ownAccount port s .count) (held-good (standsAt port (s .rooms)) s (m .good) there .count-from)) (λ e. no-rows Checked.Good refl)))))
 
 -- The challenge writer's own checks, 23, 24 and 13, find nothing wrong with a good account.
 challenge-rows : (port room : ℕ) (s : State) → Made s
@@ -156,13 +152,13 @@ unfolding Steps.challenge challengeWrittenBy
 challenge-rows port room s m =
     behind writtenChecked Written.Refused (λ why. refl) (turnChecked port s) _ (turnRows port s) _ (turn-rows port s m)
     (λ e.
-    let seed = accountOf (turnId s) s .seed in
-    let count = accountOf (turnId s) s .count - 1 in
-    let good = account-good (turnId s) s (turn-good port s e .there) (m .good) in
+    let seed = ownAccount port s .seed in
+    let count = ownAccount port s .count - 1 in
+    let good = held-good (standsAt port (s .rooms)) s (m .good) (turn-good port s e .there) in
     let most = good .count-to in
     let low : count ≤ 9999 = omega arith in
     rw (seed-checked seed (good .seed-from) (good .seed-to) (kept-seed seed (good .seed-kept) .1), le-ltb 9999 count low)
-    (room-rows room (challengeFor s)))
+    (room-rows room (challengeFor port s)))
 
 -- What is done with the password that a text says.
 read-rows : (s : State) (r : Reading) (next : ℕ → After Replied) (rows more : List Row) → Follows (readChecked r) rows
@@ -176,7 +172,7 @@ offered-rows : (port : ℕ) (text : List ℕ) (next : Room) (s : State) → Made
     → Follows (repliedChecked (offered port (said (readingOf text)) next s)) (wrongRows port text s)
 unfolding Follows offered
 offered-rows port text next s m rest =
-    go (eqb (hash (accountOf (turnId s) s .algorithm) (bytesOf (said (readingOf text)))) (accountOf (turnId s) s .password)) (isThird port s)
+    go (eqb (hash (ownAccount port s .algorithm) (bytesOf (said (readingOf text)))) (ownAccount port s .password)) (isThird port s)
     (third (portOf port s) (each-get PortGood (s .ports) port freshPort (m .runs) (omega arith, omega arith)))
   where
     go : (t u : Bool) → leb 3 (portOf port s .wrong + 1) ≡ u
@@ -192,17 +188,17 @@ unfolding Steps.reply Steps.replyRead
 call-reply-rows port text s m =
     behind repliedChecked (replyRefused s) (λ why. refl) (turnChecked port s) _ (turnRows port s) _ (turn-rows port s m)
     (λ e. read-rows s (readingOf text) _ (replyRows text) _ (reply-rows text)
-    (offered-rows port text (lowered (accountOf (turnId s) s) (said (readingOf text))) s m))
+    (offered-rows port text (lowered (ownAccount port s) (said (readingOf text))) s m))
 
 renew-rows : (port number count : ℕ) (seed new text : List ℕ) (s : State) → Made s
     → Follows (repliedChecked (Steps.renew port number count seed new text s)) (conditionsOf (Call.Renew port number count seed new text) s)
 unfolding Steps.renew Steps.renewRead renewChecked valuesChecked
 renew-rows port number count seed new text s m =
-    let values = valuesRows number count seed (accountOf (turnId s) s) in
+    let values = valuesRows number count seed (ownAccount port s) in
     behind repliedChecked (replyRefused s) (λ why. refl) (renewChecked port number count seed s) _ (turnRows port s ++ values) _
-    (then-check (turnChecked port s) _ (turnRows port s) values (turn-rows port s m) (λ a. values-rows number count seed (accountOf (turnId s) s)))
+    (then-check (turnChecked port s) _ (turnRows port s) values (turn-rows port s m) (λ a. values-rows number count seed (ownAccount port s)))
     (λ e. read-rows s (readingOf text) _ (replyRows text) _ (reply-rows text)
-    (offered-rows port text (newRoom (accountOf (turnId s) s .id) number count seed new) s m))
+    (offered-rows port text (newRoom (ownAccount port s .id) number count seed new) s m))
 
 -- ---- each call
 

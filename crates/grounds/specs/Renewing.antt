@@ -16,13 +16,13 @@ use Rattle.password.specs.PhraseAndSeed.{plain}
 use Rattle.password.specs.Password.{fold, foldWords, numberAfter, bytesOf, hash}
 use Rattle.hex.specs.Hex.{hexOf, sixteenDigits, hexReading}
 use Rattle.reply.specs.Reply.{isWord, sixWords, readingOf}
-use Rattle.line.specs.Line.{some, joined, others, turnWithout, without}
-use Rattle.accounts.specs.Rooms.{placeOf}
-use Rattle.table.specs.Table.{fresh, accountOf}
+use Rattle.line.specs.Line.{some, others, turnWithout, left}
+use Rattle.table.specs.Table.{fresh, placeOf, accountOf, inLines, standsAt}
 use Rattle.table.specs.Steps.{
   enrolChecked,
   enrol,
   joinChecked,
+  joins,
   join,
   turnChecked,
   offered,
@@ -43,8 +43,8 @@ changing =
 -- Each accepted answer is the new count, and the account has SHA-1 and the last password then.
 pub algorithm-changes : (answers changing fresh ≡ Answer.Done ∷ Answer.Done ∷ Answer.Count 3 ∷ Answer.Done ∷ Answer.Count 2 ∷ [])
     × (accountOf 1 (run changing fresh) ≡ record { id = 1; algorithm = Algorithm.Sha1; seed = codes "lift2"; count = 2; password = 6 })
-unfolding answers run enrolChecked enrol joinChecked join turnChecked offered replyRead reply renewChecked renewRead renew
-    placeOf some joined others turnWithout without plain every same codes readingOf sixWords isWord sixteenDigits hexReading
+unfolding answers run enrolChecked enrol joinChecked joins join turnChecked offered replyRead reply renewChecked renewRead renew
+    placeOf inLines standsAt some others turnWithout left plain every same codes readingOf sixWords isWord sixteenDigits hexReading
     parted unspaced digitsOf Digits.numberAfter hash fold foldWords numberAfter md5 registers absorbed compressed rounds
     performed operation round1 round2 round3 round4 Sha1.hashValue Sha1.compressed Sha1.schedule Sha1.longer Sha1.steps Sha1.step Sha1.stepWith
     Sha1.f Sha1.K blockAt paddedWord paddedByte upTo

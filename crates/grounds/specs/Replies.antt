@@ -1,11 +1,13 @@
 -- What an accepted reply and an accepted renewal do, and which replies are accepted.
-use Prim.Native.Nat.{ℕ, _+_, _≤_, _<_}
+use Prim.Native.Nat.{ℕ, zero, suc, _+_, _≤_, _<_}
 use native.Mathlib.Omega.{arith}
 use mathlib.Core.Path.{_≡_, refl, sym, ap, _∙_, subst}
 use mathlib.Core.Bool.{Bool, true, false, cond}
-use mathlib.Core.List.{List}
-use borrow.Author.Tests.{eqb-true, eq-eqb, le-leb, leb-true, lt-ltb}
+use mathlib.Core.List.{List, [], _∷_, map}
+use borrow.Author.Tests.{eqb-true, eq-eqb, ne-eqb, le-leb, leb-true, lt-ltb, ltb-true}
 use lib.Dec.{eqb, leb}
+use lib.ListN.{length, getD, set}
+use lib.Seq.{getD-set-same}
 use Rattle.text.specs.Tests.{both}
 use Rattle.refusal.specs.declared.Refusal.{Refusal}
 use Rattle.refusal.specs.declared.Checked.{Checked}
@@ -16,24 +18,33 @@ use Rattle.password.specs.Algorithm.{numbered}
 use Rattle.password.specs.AlgorithmLaws.{checked-known}
 use Rattle.password.specs.Password.{bytesOf, hash}
 use Rattle.reply.specs.Reply.{readingOf}
-use Rattle.line.specs.Line.{standsIn}
+use Rattle.line.specs.Line.{Waiting, left}
 use Rattle.table.specs.declared.Replied.{Replied}
 use Rattle.accounts.specs.Rooms.{Room}
-use Rattle.table.specs.Table.{State, isThere, accountOf, hasTurn, turnId}
+use Rattle.table.specs.Table.{State, Held, freeRoom, standsAt, waits, ownRoom, ownAccount, hasTurn, lined}
 use Rattle.table.specs.Steps as Steps
 use Rattle.accounts.specs.Accounts.{newRoom, lowered}
 use Rattle.table.specs.Steps.{replyRefused, turnChecked, offered, read, replyRead, reply, renewChecked, renewRead, renew}
 use Rattle.table.specs.StepLaws.{renew-passed}
-use Rattle.reached.specs.Day.{SteppedDown, Renewed}
-use Rattle.reached.specs.RoomsChanged.{there-parts, same-changed}
-use Rattle.reached.specs.Outcome.{TurnGood, turn-good, turn-holder}
+use Rattle.reached.specs.Day.{SteppedDown, Renewed, waitedFor}
+use Rattle.reached.specs.Outcome.{TurnGood, turn-good}
 
 -- ---- from one step
 
--- The account whose turn it is, after an accepted reply of the port that has it.
-pub accepted-account : (p : ℕ) (next : Room) (s : State) → TurnGood p s → next .id ≡ turnId s
-    → accountOf (turnId s) (Steps.accepted p next s .state) ≡ next
-accepted-account p next s g e = same-changed (turnId s) (s .rooms) next e (there-parts (turnId s) (s .rooms) (g .there) .1)
+-- What a room holds, its line changed with all lines.
+line-changed : (change : Waiting → Waiting) (rooms : List Held) (k : ℕ) → getD (map (lined change) rooms) k freeRoom .account ≡ getD rooms k freeRoom .account
+line-changed change [] k = refl
+line-changed change (held ∷ rooms) zero = refl
+line-changed change (held ∷ rooms) (suc k) = line-changed change rooms k
+
+-- The account that the port waits for, after an accepted reply of that port.
+pub accepted-account : (p : ℕ) (next : Room) (s : State) → standsAt p (s .rooms) < length (s .rooms)
+    → waitedFor p s (Steps.accepted p next s .state) ≡ next
+accepted-account p next s inside =
+    let at = standsAt p (s .rooms) in
+    let held : Held = record { account = next; line = ownRoom p s .line } in
+    line-changed (left p) (set (s .rooms) at held) at
+    ∙ ap (λ (h : Held). h .account) (getD-set-same (s .rooms) at held freeRoom inside)
 
 -- What was presented and accepted with the answer `count`: a text, read as a password whose hash, by the account's algorithm, is the one stored.
 -- The account becomes what `next` makes of it.
@@ -41,7 +52,7 @@ pub record Taken (p count : ℕ) (text : Reading) (next : ℕ → Room) (s state
   pub taken : ℕ
   pub said : text ≡ Reading.Password taken
   pub turn : TurnGood p s
-  pub hashed : hash (accountOf (turnId s) s .algorithm) (bytesOf taken) ≡ accountOf (turnId s) s .password
+  pub hashed : hash (ownAccount p s .algorithm) (bytesOf taken) ≡ ownAccount p s .password
   pub answered : count ≡ next taken .count
   pub left : state ≡ Steps.accepted p (next taken) s .state
 
@@ -52,9 +63,9 @@ module _ (p n : ℕ) (next : ℕ → Room) (s : State) where
   offered-taken : TurnGood p s → (w : ℕ) → offered p w (next w) s .answer ≡ Replied.Accepted n
       → Taken p n (Reading.Password w) next s (offered p w (next w) s .state)
   unfolding offered
-  offered-taken g w e = test (eqb (hash (accountOf (turnId s) s .algorithm) (bytesOf w)) (accountOf (turnId s) s .password)) refl e
+  offered-taken g w e = test (eqb (hash (ownAccount p s .algorithm) (bytesOf w)) (ownAccount p s .password)) refl e
     where
-      test : (t : Bool) → eqb (hash (accountOf (turnId s) s .algorithm) (bytesOf w)) (accountOf (turnId s) s .password) ≡ t
+      test : (t : Bool) → eqb (hash (ownAccount p s .algorithm) (bytesOf w)) (ownAccount p s .password) ≡ t
           → cond t (Steps.accepted p (next w) s) (Steps.rejected p s) .answer ≡ Replied.Accepted n
           → Taken p n (Reading.Password w) next s (cond t (Steps.accepted p (next w) s) (Steps.rejected p s) .state)
       test true f e =
@@ -62,7 +73,7 @@ module _ (p n : ℕ) (next : ℕ → Room) (s : State) where
             taken = w;
             said = refl;
             turn = g;
-            hashed = eqb-true (hash (accountOf (turnId s) s .algorithm) (bytesOf w)) (accountOf (turnId s) s .password) f;
+            hashed = eqb-true (hash (ownAccount p s .algorithm) (bytesOf w)) (ownAccount p s .password) f;
             answered = cc;
             left = refl;
           }
@@ -77,25 +88,23 @@ module _ (p n : ℕ) (next : ℕ → Room) (s : State) where
   checked-taken Checked.Good g (Reading.Password w) e = offered-taken (g refl) w e
 
   -- The account is then the next one.
-  taken-account : (text : Reading) (state : State) (r : Taken p n text next s state) → next (r .taken) .id ≡ accountOf (turnId s) s .id
-      → accountOf (turnId s) state ≡ next (r .taken)
-  taken-account text state r same =
-      ap (λ (u : State). accountOf (turnId s) u) (r .left)
-      ∙ accepted-account p (next (r .taken)) s (r .turn) (same ∙ turn-holder p s (r .turn))
+  taken-account : (text : Reading) (state : State) (r : Taken p n text next s state) → waitedFor p s state ≡ next (r .taken)
+  taken-account text state r = ap (waitedFor p s) (r .left) ∙ accepted-account p (next (r .taken)) s
+      (ltb-true (standsAt p (s .rooms)) (length (s .rooms)) (r .turn .inside))
 
 pub reply-taken : (p n : ℕ) (text : List ℕ) (s : State) → reply p text s .answer ≡ Replied.Accepted n
-    → Taken p n (readingOf text) (lowered (accountOf (turnId s) s)) s (reply p text s .state)
+    → Taken p n (readingOf text) (lowered (ownAccount p s)) s (reply p text s .state)
 unfolding reply replyRead
-reply-taken p n text s e = checked-taken p n (lowered (accountOf (turnId s) s)) s (turnChecked p s) (turn-good p s) (readingOf text) e
+reply-taken p n text s e = checked-taken p n (lowered (ownAccount p s)) s (turnChecked p s) (turn-good p s) (readingOf text) e
 
-pub taken-steps-down : (p n : ℕ) (text : Reading) (s state : State) → Taken p n text (lowered (accountOf (turnId s) s)) s state
-    → (n ≡ accountOf (turnId s) state .count) × SteppedDown (accountOf (turnId s) s) (accountOf (turnId s) state)
+pub taken-steps-down : (p n : ℕ) (text : Reading) (s state : State) → Taken p n text (lowered (ownAccount p s)) s state
+    → (n ≡ waitedFor p s state .count) × SteppedDown (ownAccount p s) (waitedFor p s state)
 taken-steps-down p n text s state r =
-    let old = accountOf (turnId s) s in
+    let old = ownAccount p s in
     let next = lowered old (r .taken) in
     let unused = r .turn .unused in
     let down : next .count + 1 ≡ old .count = omega arith in
-    subst (λ (room : Room). (n ≡ room .count) × SteppedDown old room) (sym (taken-account p n (lowered old) s text state r refl))
+    subst (λ (room : Room). (n ≡ room .count) × SteppedDown old room) (sym (taken-account p n (lowered old) s text state r))
     (r .answered, record { same-id = refl; same-algorithm = refl; same-seed = refl; count-lower = down; old-is-hash = sym (r .hashed) })
 
 -- ---- a renewal
@@ -103,9 +112,9 @@ taken-steps-down p n text s state r =
 module _ (p n number count : ℕ) (seed new text : List ℕ) (s : State) (e : renew p number count seed new text s .answer ≡ Replied.Accepted n) where
   -- The account that it makes, whatever was presented.
   abbrev next : ℕ → Room
-  next w = newRoom (accountOf (turnId s) s .id) number count seed new
+  next w = newRoom (ownAccount p s .id) number count seed new
 
-  taken-renewal : Taken p n (readingOf text) next s (renew p number count seed new text s .state)
+  pub taken-renewal : Taken p n (readingOf text) next s (renew p number count seed new text s .state)
   unfolding renew renewRead
   taken-renewal =
       checked-taken p n next s (renewChecked p number count seed s) (λ k. turn-good p s (renew-passed p number count seed s k .turn)) (readingOf text) e
@@ -120,10 +129,10 @@ module _ (p n number count : ℕ) (seed new text : List ℕ) (s : State) (e : re
       go (Checked.Refused why) f = not-accepted why n f
 
   pub taken-renews : (n ≡ count)
-      × Renewed number count seed new text (accountOf (turnId s) s) (accountOf (turnId s) (renew p number count seed new text s .state))
+      × Renewed number count seed new text (ownAccount p s) (waitedFor p s (renew p number count seed new text s .state))
   taken-renews =
       let passed = renew-passed p number count seed s checks-good in
-      let becomes = taken-account p n next s (readingOf text) (renew p number count seed new text s .state) taken-renewal refl in
+      let becomes = taken-account p n next s (readingOf text) (renew p number count seed new text s .state) taken-renewal in
       let from = leb-true 2 count (both (leb 2 count) (leb count 9999) (passed .within) .0) in (
         taken-renewal .answered,
         record {
@@ -138,13 +147,13 @@ module _ (p n number count : ℕ) (seed new text : List ℕ) (s : State) (e : re
 
 -- ---- a reply that is accepted
 
-pub turn-checked : (p : ℕ) (s : State) → p ≤ 3 → standsIn p (s .line) ≡ true → hasTurn p s ≡ true → isThere (turnId s) s ≡ true
-    → 1 < accountOf (turnId s) s .count → turnChecked p s ≡ Checked.Good
+pub turn-checked : (p : ℕ) (s : State) → p ≤ 3 → waits p s ≡ true → hasTurn p s ≡ true → (ownAccount p s .id ≡ 0 → ⊥)
+    → 1 < ownAccount p s .count → turnChecked p s ≡ Checked.Good
 unfolding turnChecked
-turn-checked p s k l f t u = rw (le-leb p 3 k, l, f, t, lt-ltb 1 (accountOf (turnId s) s .count) u)
+turn-checked p s k l f t u = rw (le-leb p 3 k, l, f, ne-eqb (ownAccount p s .id) 0 t, lt-ltb 1 (ownAccount p s .count) u)
 
 pub reply-accepted : (p w : ℕ) (text : List ℕ) (s : State) → turnChecked p s ≡ Checked.Good → readingOf text ≡ Reading.Password w
-    → hash (accountOf (turnId s) s .algorithm) (bytesOf w) ≡ accountOf (turnId s) s .password
-    → reply p text s ≡ Steps.accepted p (lowered (accountOf (turnId s) s) w) s
+    → hash (ownAccount p s .algorithm) (bytesOf w) ≡ ownAccount p s .password
+    → reply p text s ≡ Steps.accepted p (lowered (ownAccount p s) w) s
 unfolding reply replyRead offered
-reply-accepted p w text s k r e = rw (k, r, eq-eqb (hash (accountOf (turnId s) s .algorithm) (bytesOf w)) (accountOf (turnId s) s .password) e)
+reply-accepted p w text s k r e = rw (k, r, eq-eqb (hash (ownAccount p s .algorithm) (bytesOf w)) (ownAccount p s .password) e)

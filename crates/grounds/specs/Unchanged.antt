@@ -14,7 +14,7 @@ use Rattle.password.specs.Password.{bytesOf, hash}
 use Rattle.reply.specs.Reply.{readingOf}
 use Rattle.table.specs.declared.Replied.{Replied}
 use Rattle.accounts.specs.Rooms.{Room}
-use Rattle.table.specs.Table.{State, accountOf, portOf, turnId}
+use Rattle.table.specs.Table.{State, portOf, ownAccount}
 use Rattle.table.specs.TableChecks.{accountThere}
 use Rattle.table.specs.Steps as Steps
 use Rattle.accounts.specs.Accounts.{lowered, newRoom}
@@ -37,7 +37,7 @@ module _ (why : Refusal) (other : isIn (listingOf why .0) (61 ∷ 62 ∷ []) ≡
   pub offered-other : (port w : ℕ) (next : Room) (s : State) → repliedAnswer (offered port w next s .answer) ≡ Answer.Refused why → ⊥
   unfolding offered
   offered-other port w next s e =
-      go (eqb (hash (accountOf (turnId s) s .algorithm) (bytesOf w)) (accountOf (turnId s) s .password)) (leb 3 (portOf port s .wrong + 1)) refl e
+      go (eqb (hash (ownAccount port s .algorithm) (bytesOf w)) (ownAccount port s .password)) (leb 3 (portOf port s .wrong + 1)) refl e
     where
       go : (t u : Bool) → leb 3 (portOf port s .wrong + 1) ≡ u
           → repliedAnswer (cond t (Steps.accepted port next s) (Steps.rejected port s) .answer) ≡ Answer.Refused why
@@ -63,8 +63,8 @@ module _ (why : Refusal) (other : isIn (listingOf why .0) (61 ∷ 62 ∷ []) ≡
   refused-unchanged (Call.Challenge port room) s e = refl
   refused-unchanged (Call.Reply port text) s e =
       replied-unchanged s (turnChecked port s) (readingOf text) _
-      (λ w. offered-other port w (lowered (accountOf (turnId s) s) w) s) e
+      (λ w. offered-other port w (lowered (ownAccount port s) w) s) e
   refused-unchanged (Call.Renew port number count seed new text) s e =
       replied-unchanged s (renewChecked port number count seed s) (readingOf text) _
-      (λ w. offered-other port w (newRoom (accountOf (turnId s) s .id) number count seed new) s) e
+      (λ w. offered-other port w (newRoom (ownAccount port s .id) number count seed new) s) e
   refused-unchanged Call.Tick s e = let z : _≡_ {A = ℕ} 0 1 = cc in absurd (omega arith)

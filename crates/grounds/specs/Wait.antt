@@ -1,106 +1,117 @@
--- The ticks still to pass before a place is in front, at most: no quiet call raises them, and each tick lowers them.
+-- The ticks still to pass before a port is in front of its line, at most: no quiet call raises them, and each tick lowers them.
 use Prim.Native.Nat.{ℕ, suc, _+_, _*_, _≤_, zero-le, suc-le-suc}
 use native.Mathlib.Omega.{arith}
 use native.Mathlib.Nat.{le-refl}
 use mathlib.Core.Path.{_≡_, refl, sym, ap, _∙_}
 use mathlib.Core.Bool.{Bool, true, false, true≢false, cond, _||_}
 use mathlib.Core.List.{List, [], _∷_, _++_}
+use borrow.Author.Tests.{eqb-true, eqb-false, eq-eqb}
+use lib.Dec.{eqb}
 use lib.ListN.{length}
-use Rattle.line.specs.declared.Place.{Place}
-use Rattle.line.specs.Line.{some, start, turnJoined, others, turnWithout}
+use Rattle.line.specs.Line.{ofPort, some, start, turnJoined, others, turnWithout}
 
--- How many places stand before the first that passes the test.
-unfoldable pub ahead : (Place → Bool) → List Place → ℕ
-ahead mine [] = 0
-ahead mine (x ∷ xs) = cond (mine x) 0 (suc (ahead mine xs))
+-- How many stand before the port.
+unfoldable pub ahead : ℕ → List ℕ → ℕ
+ahead p [] = 0
+ahead p (x ∷ l) = cond (ofPort p x) 0 (suc (ahead p l))
 
--- What is left of the turn, and 60 ticks for each place between.
-unfoldable pub waitOf : (Place → Bool) → List Place → ℕ → ℕ
-waitOf mine [] turn = 0
-waitOf mine (x ∷ xs) turn = cond (mine x) 0 (turn + 60 * ahead mine xs)
+-- What is left of the turn, and 60 ticks for each port between.
+unfoldable pub waitOf : ℕ → List ℕ → ℕ → ℕ
+waitOf p [] turn = 0
+waitOf p (x ∷ l) turn = cond (ofPort p x) 0 (turn + 60 * ahead p l)
 
-module _ (mine : Place → Bool) where
-  -- ---- places leave, and not mine
+module _ (p : ℕ) where
+  -- ---- another port leaves
 
-  pub some-others : (gone : Place → Bool) → ((x : Place) → mine x ≡ true → gone x ≡ false) → (l : List Place)
-      → some mine l ≡ true → (some mine (others gone l) ≡ true) × (ahead mine (others gone l) ≤ ahead mine l)
+  -- It isn't both ports.
+  not-both : (port x : ℕ) → eqb port p ≡ false → eqb x port ≡ true → eqb x p ≡ true → ⊥
+  not-both port x n e f = eqb-false port p n (sym (eqb-true x port e) ∙ eqb-true x p f)
+
+  -- The port stays, and no more stand before it.
+  pub still-others : (port : ℕ) → eqb port p ≡ false → (l : List ℕ) → some (ofPort p) l ≡ true
+      → (some (ofPort p) (others (ofPort port) l) ≡ true) × (ahead p (others (ofPort port) l) ≤ ahead p l)
   unfolding some others ahead
-  some-others gone spared [] h = absurd (true≢false (sym h))
-  some-others gone spared (x ∷ xs) h = go (gone x) (mine x) refl refl h (some-others gone spared xs)
+  still-others port n [] h = absurd (true≢false (sym h))
+  still-others port n (x ∷ l) h = by (eqb x port) (eqb x p) refl refl h (still-others port n l)
     where
-      go : (t u : Bool) → gone x ≡ t → mine x ≡ u → (u || some mine xs) ≡ true
-          → (some mine xs ≡ true → (some mine (others gone xs) ≡ true) × (ahead mine (others gone xs) ≤ ahead mine xs))
-          → (some mine (cond t (others gone xs) (x ∷ others gone xs)) ≡ true)
-          × (ahead mine (cond t (others gone xs) (x ∷ others gone xs)) ≤ cond u 0 (suc (ahead mine xs)))
-      go true true e f h ih = absurd (true≢false (sym e ∙ spared x f))
-      go true false e f h ih = let below = ih h .1 in (ih h .0, omega arith)
-      go false true e f h ih = (rw f, rw f zero-le)
-      go false false e f h ih = (rw f (ih h .0), rw f (suc-le-suc (ih h .1)))
+      by : (t u : Bool) → eqb x port ≡ t → eqb x p ≡ u → (u || some (ofPort p) l) ≡ true
+          → (some (ofPort p) l ≡ true → (some (ofPort p) (others (ofPort port) l) ≡ true) × (ahead p (others (ofPort port) l) ≤ ahead p l))
+          → (some (ofPort p) (cond t (others (ofPort port) l) (x ∷ others (ofPort port) l)) ≡ true)
+          × (ahead p (cond t (others (ofPort port) l) (x ∷ others (ofPort port) l)) ≤ cond u 0 (suc (ahead p l)))
+      by true true e f h ih = absurd (not-both port x n e f)
+      by true false e f h ih = let below = ih h .1 in (ih h .0, omega arith)
+      by false true e f h ih = (rw f, rw f zero-le)
+      by false false e f h ih = (rw f (ih h .0), rw f (suc-le-suc (ih h .1)))
 
-  pub wait-start : (l : List Place) → waitOf mine l (start l) ≤ 60 * ahead mine l
+  -- Where a turn begins, the wait is 60 ticks for each that stands before the port, at most.
+  pub wait-start : (l : List ℕ) → waitOf p l (start l) ≤ 60 * ahead p l
   unfolding ahead waitOf
   wait-start [] = zero-le
-  wait-start (x ∷ xs) = go (mine x)
+  wait-start (x ∷ l) = by (ofPort p x)
     where
-      go : (u : Bool) → cond u 0 (60 + 60 * ahead mine xs) ≤ 60 * cond u 0 (suc (ahead mine xs))
-      go true = zero-le
-      go false = omega arith
+      by : (u : Bool) → cond u 0 (60 + 60 * ahead p l) ≤ 60 * cond u 0 (suc (ahead p l))
+      by true = zero-le
+      by false = omega arith
 
-  pub wait-without : (gone : Place → Bool) → ((x : Place) → mine x ≡ true → gone x ≡ false) → (l : List Place) (turn : ℕ)
-      → some mine l ≡ true → waitOf mine (others gone l) (turnWithout gone l turn) ≤ waitOf mine l turn
+  -- It waits no longer than before.
+  pub wait-others : (port : ℕ) → eqb port p ≡ false → (l : List ℕ) (turn : ℕ) → some (ofPort p) l ≡ true
+      → waitOf p (others (ofPort port) l) (turnWithout (ofPort port) l turn) ≤ waitOf p l turn
   unfolding some others turnWithout waitOf
-  wait-without gone spared [] turn h = zero-le
-  wait-without gone spared (x ∷ xs) turn h = go (gone x) (mine x) refl refl h
+  wait-others port n [] turn h = zero-le
+  wait-others port n (x ∷ l) turn h = by (eqb x port) (eqb x p) refl refl h
     where
-      go : (t u : Bool) → gone x ≡ t → mine x ≡ u → (u || some mine xs) ≡ true
-          → waitOf mine (cond t (others gone xs) (x ∷ others gone xs)) (cond t (start (others gone xs)) turn)
-          ≤ cond u 0 (turn + 60 * ahead mine xs)
-      go true true e f h = absurd (true≢false (sym e ∙ spared x f))
-      go true false e f h =
-          let below = some-others gone spared xs h .1 in
-          omega (arith, wait-start (others gone xs))
-      go false true e f h = rw f zero-le
-      go false false e f h =
-          let below = some-others gone spared xs h .1 in
+      by : (t u : Bool) → eqb x port ≡ t → eqb x p ≡ u → (u || some (ofPort p) l) ≡ true
+          → waitOf p (cond t (others (ofPort port) l) (x ∷ others (ofPort port) l)) (cond t (start (others (ofPort port) l)) turn)
+          ≤ cond u 0 (turn + 60 * ahead p l)
+      by true true e f h = absurd (not-both port x n e f)
+      by true false e f h =
+          let below = still-others port n l h .1 in
+          omega (arith, wait-start (others (ofPort port) l))
+      by false true e f h = rw f zero-le
+      by false false e f h =
+          let below = still-others port n l h .1 in
           rw f (omega arith)
 
   -- ---- a port comes behind
 
-  pub some-append : (l : List Place) (place : Place) → some mine l ≡ true
-      → (some mine (l ++ place ∷ []) ≡ true) × (ahead mine (l ++ place ∷ []) ≡ ahead mine l)
+  -- As many stand before it.
+  ahead-append : (l : List ℕ) (port : ℕ) → some (ofPort p) l ≡ true → ahead p (l ++ port ∷ []) ≡ ahead p l
   unfolding some ahead
-  some-append [] place h = absurd (true≢false (sym h))
-  some-append (x ∷ xs) place h = go (mine x) h (some-append xs place)
+  ahead-append [] port h = absurd (true≢false (sym h))
+  ahead-append (x ∷ l) port h = by (ofPort p x) h (ahead-append l port)
     where
-      go : (u : Bool) → (u || some mine xs) ≡ true
-          → (some mine xs ≡ true → (some mine (xs ++ place ∷ []) ≡ true) × (ahead mine (xs ++ place ∷ []) ≡ ahead mine xs))
-          → ((u || some mine (xs ++ place ∷ [])) ≡ true)
-          × (cond u 0 (suc (ahead mine (xs ++ place ∷ []))) ≡ cond u 0 (suc (ahead mine xs)))
-      go true h ih = (refl, refl)
-      go false h ih = (ih h .0, ap suc (ih h .1))
+      by : (u : Bool) → (u || some (ofPort p) l) ≡ true → (some (ofPort p) l ≡ true → ahead p (l ++ port ∷ []) ≡ ahead p l)
+          → cond u 0 (suc (ahead p (l ++ port ∷ []))) ≡ cond u 0 (suc (ahead p l))
+      by true h ih = refl
+      by false h ih = ap suc (ih h)
 
-  pub wait-append : (l : List Place) (place : Place) (turn : ℕ) → some mine l ≡ true
-      → waitOf mine (l ++ place ∷ []) (turnJoined l turn) ≤ waitOf mine l turn
+  -- It waits no longer than before.
+  pub wait-append : (l : List ℕ) (port turn : ℕ) → some (ofPort p) l ≡ true → waitOf p (l ++ port ∷ []) (turnJoined l turn) ≤ waitOf p l turn
   unfolding some waitOf
-  wait-append [] place turn h = absurd (true≢false (sym h))
-  wait-append (x ∷ xs) place turn h = go (mine x) h
+  wait-append [] port turn h = absurd (true≢false (sym h))
+  wait-append (x ∷ l) port turn h = by (ofPort p x) h
     where
-      go : (u : Bool) → (u || some mine xs) ≡ true
-          → cond u 0 (turn + 60 * ahead mine (xs ++ place ∷ [])) ≤ cond u 0 (turn + 60 * ahead mine xs)
-      go true h = zero-le
-      go false h = rw (some-append xs place h .1) (le-refl _)
+      by : (u : Bool) → (u || some (ofPort p) l) ≡ true
+          → cond u 0 (turn + 60 * ahead p (l ++ port ∷ [])) ≤ cond u 0 (turn + 60 * ahead p l)
+      by true h = zero-le
+      by false h = rw (ahead-append l port h) (le-refl _)
 
-  -- The back of a line, with so many before it.
-  pub wait-back : (l : List Place) (place : Place) (turn : ℕ) → turn ≤ 60 → mine place ≡ true
-      → (some mine (l ++ place ∷ []) ≡ true) × (ahead mine (l ++ place ∷ []) ≤ length l)
-      × (waitOf mine (l ++ place ∷ []) turn ≤ 60 * length l)
-  unfolding some ahead waitOf
-  wait-back [] place turn k m = (rw m, rw m zero-le, rw m zero-le)
-  wait-back (x ∷ xs) place turn k m = go (mine x) (wait-back xs place turn k m)
+  -- At the back of a line, with so many before it.
+  ahead-back : (l : List ℕ) → ahead p (l ++ p ∷ []) ≤ length l
+  unfolding ahead
+  ahead-back [] = rw (eq-eqb p p refl) zero-le
+  ahead-back (x ∷ l) = by (ofPort p x) (ahead-back l)
     where
-      go : (u : Bool) → (some mine (xs ++ place ∷ []) ≡ true) × (ahead mine (xs ++ place ∷ []) ≤ length xs)
-          × (waitOf mine (xs ++ place ∷ []) turn ≤ 60 * length xs)
-          → ((u || some mine (xs ++ place ∷ [])) ≡ true) × (cond u 0 (suc (ahead mine (xs ++ place ∷ []))) ≤ suc (length xs))
-          × (cond u 0 (turn + 60 * ahead mine (xs ++ place ∷ [])) ≤ 60 * suc (length xs))
-      go true ih = (refl, zero-le, zero-le)
-      go false ih = let below = ih .1 in (ih .0, suc-le-suc (ih .1), omega arith)
+      by : (u : Bool) → ahead p (l ++ p ∷ []) ≤ length l → cond u 0 (suc (ahead p (l ++ p ∷ []))) ≤ suc (length l)
+      by true ih = zero-le
+      by false ih = suc-le-suc ih
+
+  -- 60 ticks for each of them, at most.
+  pub wait-back : (l : List ℕ) (turn : ℕ) → turn ≤ 60 → waitOf p (l ++ p ∷ []) turn ≤ 60 * length l
+  unfolding waitOf
+  wait-back [] turn k = rw (eq-eqb p p refl) zero-le
+  wait-back (x ∷ l) turn k = by (ofPort p x)
+    where
+      by : (u : Bool) → cond u 0 (turn + 60 * ahead p (l ++ p ∷ [])) ≤ 60 * suc (length l)
+      by true = zero-le
+      by false = omega (arith, ahead-back l)

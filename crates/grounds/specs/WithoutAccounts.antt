@@ -4,7 +4,7 @@ use native.Mathlib.Omega.{arith}
 use native.Mathlib.Decide.{ℕ-discrete}
 use native.Mathlib.Nat.{le-refl}
 use mathlib.Core.Path.{_≡_, refl, sym, ap, ap₂, _∙_}
-use mathlib.Core.Bool.{Bool, true, false, true≢false, cond, not}
+use mathlib.Core.Bool.{Bool, true, false, cond, not}
 use mathlib.Core.List.{List, [], _∷_, _++_, map}
 use borrow.Author.Tests.{eqb-true, eq-eqb, ne-eqb, le-ltb, lt-ltb}
 use lib.Dec.{eqb}
@@ -13,49 +13,46 @@ use Rattle.refusal.specs.declared.Refusal.{Refusal}
 use Rattle.refusal.specs.declared.Checked.{Checked}
 use Rattle.refusal.specs.declared.Written.{Written}
 use Rattle.refusal.specs.Checks.{must, unless, inOrder}
-use Rattle.refusal.specs.Each.{Each}
+use Rattle.refusal.specs.Each.{Each, each-get}
 use Rattle.password.specs.Algorithm.{numbered, algorithmChecked}
 use Rattle.password.specs.PhraseAndSeed.{seedChecked}
-use Rattle.line.specs.declared.Place.{Place}
-use Rattle.line.specs.Line.{Waiting, ofPort, some, first}
-use Rattle.line.specs.Laws.{ticked-none}
+use Rattle.line.specs.Line.{Waiting, empty, some, standsIn, ticked}
 use Rattle.port.specs.Port.{cooled}
-use Rattle.accounts.specs.Rooms.{Room, placeOf, holds}
-use Rattle.accounts.specs.Accounts.{countWithin, newRoom}
+use Rattle.accounts.specs.Accounts.{countWithin, newRoom, seedOther}
 use Rattle.table.specs.declared.Replied.{Replied}
-use Rattle.table.specs.Table.{State, isThere, turnId, withRoom}
-use Rattle.table.specs.TableChecks.{idGiven, accountThere, portKnown, notInLine, portOpen, notUsedUp, inLine, inFront, seedNew}
+use Rattle.table.specs.Table.{State, Held, freeRoom, placeOf, holds, isThere, accountOf, lineOf, standsAt, waits, ownAccount, lined, withAccount}
+use Rattle.table.specs.TableChecks.{idGiven, accountThere, portKnown, notInLine, portOpen, notUsedUp, inLine, inFront}
 use Rattle.table.specs.Steps as Steps
 use Rattle.table.specs.Steps.{After, refused, replyRefused, done, enrolChecked, joinChecked, leaveChecked, turnChecked, renewChecked}
 use Rattle.reached.specs.Calls.{Call, checkedAnswer, repliedAnswer, writtenAnswer, answer, after}
 use Rattle.reached.specs.Equal.{accountsIn}
-use Rattle.reached.specs.Made.{Made}
+use Rattle.reached.specs.Made.{Idle, Made}
 use Rattle.grounds.specs.Full.{settled-answer}
 
 -- ---- no id is there, and the first room is free
 
-Free : Room → Type 0
-Free room = room .id ≡ 0
+Free : Held → Type 0
+Free held = held .account .id ≡ 0
 
-all-free : (rooms : List Room) → accountsIn rooms ≡ 0 → Each Free rooms
+all-free : (rooms : List Held) → accountsIn rooms ≡ 0 → Each Free rooms
 unfolding accountsIn Free
 all-free [] e = tt
-all-free (room ∷ rooms) e = go (eqb (room .id) 0) refl e (all-free rooms)
+all-free (room ∷ rooms) e = go (eqb (room .account .id) 0) refl e (all-free rooms)
   where
-    go : (t : Bool) → eqb (room .id) 0 ≡ t → cond t (accountsIn rooms) (suc (accountsIn rooms)) ≡ 0 → (accountsIn rooms ≡ 0 → Each Free rooms)
+    go : (t : Bool) → eqb (room .account .id) 0 ≡ t → cond t (accountsIn rooms) (suc (accountsIn rooms)) ≡ 0 → (accountsIn rooms ≡ 0 → Each Free rooms)
         → Each Free (room ∷ rooms)
-    go true f e ih = (eqb-true (room .id) 0 f, ih e)
+    go true f e ih = (eqb-true (room .account .id) 0 f, ih e)
     go false f e ih = absurd (omega arith)
 
-nowhere : (id : ℕ) → (id ≡ 0 → ⊥) → (rooms : List Room) → Each Free rooms → placeOf id rooms ≡ length rooms
+nowhere : (id : ℕ) → (id ≡ 0 → ⊥) → (rooms : List Held) → Each Free rooms → placeOf id rooms ≡ length rooms
 unfolding placeOf Free
 nowhere id n [] h = refl
-nowhere id n (room ∷ rooms) h = rw (ne-eqb (room .id) id (λ e. n (sym e ∙ h .0))) (ap suc (nowhere id n rooms (h .1)))
+nowhere id n (room ∷ rooms) h = rw (ne-eqb (room .account .id) id (λ e. n (sym e ∙ h .0))) (ap suc (nowhere id n rooms (h .1)))
 
-first-free : (rooms : List Room) → length rooms ≡ 32 → Each Free rooms → (placeOf 0 rooms ≡ 0) × (holds 0 rooms ≡ true)
+first-free : (rooms : List Held) → length rooms ≡ 32 → Each Free rooms → (placeOf 0 rooms ≡ 0) × (holds 0 rooms ≡ true)
 unfolding placeOf Free
 first-free [] e h = absurd (omega arith)
-first-free (room ∷ rooms) e h = rw (eq-eqb (room .id) 0 (h .0)) (refl, lt-ltb 0 (suc (length rooms)) (omega arith))
+first-free (room ∷ rooms) e h = rw (eq-eqb (room .account .id) 0 (h .0)) (refl, lt-ltb 0 (suc (length rooms)) (omega arith))
 
 -- ---- behind checks that refuse
 
@@ -100,7 +97,7 @@ outside = Checked.Refused Refusal.PortNotInLine
 abbrev pub ownChecks : ℕ → ℕ → ℕ → List ℕ → Checked
 ownChecks id number count seed = inOrder (idGiven id ∷ countWithin count ∷ algorithmChecked (numbered number) ∷ seedChecked seed ∷ [])
 
--- A turn's, where the account that the front waits for isn't there: 55, 59, 60, 54.
+-- A turn's, where the account that the port waits for isn't there: 55, 59, 60, 54.
 abbrev pub inTurn : ℕ → State → Checked
 inTurn port s = inOrder (portKnown port ∷ inLine port s ∷ inFront port s ∷ missing ∷ [])
 
@@ -116,7 +113,7 @@ module _ (s : State) (none : accountsIn (s .rooms) ≡ 0) where
   pub enrol-first : length (s .rooms) ≡ 32 → (id number count : ℕ) (seed password : List ℕ)
       → (answer (Call.Enrol id number count seed password) s ≡ checkedAnswer (ownChecks id number count seed))
       × (after (Call.Enrol id number count seed password) s
-      ≡ unless (λ why. s) (ownChecks id number count seed) (withRoom 0 (newRoom id number count seed password) s))
+      ≡ unless (λ why. s) (ownChecks id number count seed) (withAccount 0 (newRoom id number count seed password) s))
   unfolding Steps.enrol enrolChecked
   enrol-first rooms id number count seed password =
       let vacant = first-free (s .rooms) rooms (all-free (s .rooms) none) in
@@ -127,13 +124,13 @@ module _ (s : State) (none : accountsIn (s .rooms) ≡ 0) where
       (not-there id) (vacant .1) in
       let did = go (enrolChecked id number count seed s) (placeOf 0 (s .rooms)) in (
         did .0 ∙ ap checkedAnswer checked,
-        did .1 ∙ ap₂ (λ (k : Checked) (place : ℕ). unless (λ why. s) k (withRoom place (newRoom id number count seed password) s)) checked (vacant .0),
+        did .1 ∙ ap₂ (λ (k : Checked) (place : ℕ). unless (λ why. s) k (withAccount place (newRoom id number count seed password) s)) checked (vacant .0),
       )
     where
       go : (k : Checked) (place : ℕ)
-          → (checkedAnswer (unless (refused s) k (done (withRoom place (newRoom id number count seed password) s)) .answer) ≡ checkedAnswer k)
-          × (unless (refused s) k (done (withRoom place (newRoom id number count seed password) s)) .state
-          ≡ unless (λ why. s) k (withRoom place (newRoom id number count seed password) s))
+          → (checkedAnswer (unless (refused s) k (done (withAccount place (newRoom id number count seed password) s)) .answer) ≡ checkedAnswer k)
+          × (unless (refused s) k (done (withAccount place (newRoom id number count seed password) s)) .state
+          ≡ unless (λ why. s) k (withAccount place (newRoom id number count seed password) s))
       go Checked.Good place = (refl, refl)
       go (Checked.Refused why) place = (refl, refl)
 
@@ -146,15 +143,17 @@ module _ (s : State) (none : accountsIn (s .rooms) ≡ 0) where
   unfolding Steps.join joinChecked
   join-nobody port id =
       settled-refused s _ (joinChecked port id s) (inOrder (portKnown port ∷ missing ∷ []))
-      (ap (λ (there : Bool). inOrder (portKnown port ∷ must there Refusal.AccountMissing ∷ notInLine port s ∷ portOpen port s ∷ notUsedUp id s ∷ []))
+      (ap (λ (there : Bool). inOrder (portKnown port ∷ must there Refusal.AccountMissing ∷ notInLine port s ∷ portOpen port s
+      ∷ notUsedUp (accountOf id s) ∷ []))
       (not-there id))
       (ends-refused (portKnown port ∷ []) Refusal.AccountMissing)
 
   turn-checks : (port : ℕ) → turnChecked port s ≡ inTurn port s
-  unfolding turnChecked
+  unfolding turnChecked Free
   turn-checks port =
-      ap (λ (there : Bool). inOrder (portKnown port ∷ inLine port s ∷ inFront port s ∷ must there Refusal.AccountMissing ∷ notUsedUp (turnId s) s ∷ []))
-      (not-there (turnId s))
+      ap (λ (id : ℕ). inOrder (portKnown port ∷ inLine port s ∷ inFront port s ∷ must (not (eqb id 0)) Refusal.AccountMissing
+      ∷ notUsedUp (ownAccount port s) ∷ []))
+      (each-get Free (s .rooms) (standsAt port (s .rooms)) freeRoom (all-free (s .rooms) none) refl)
 
   turn-refuses : (port : ℕ) → inTurn port s ≡ Checked.Good → ⊥
   turn-refuses port = ends-refused (portKnown port ∷ inLine port s ∷ inFront port s ∷ []) Refusal.AccountMissing
@@ -173,7 +172,8 @@ module _ (s : State) (none : accountsIn (s .rooms) ≡ 0) where
   renew-checks port number count seed = go (turnChecked port s) (turn-checks port)
     where
       go : (turn : Checked) → turn ≡ inTurn port s
-          → inOrder (turn ∷ countWithin count ∷ algorithmChecked (numbered number) ∷ seedChecked seed ∷ seedNew seed (turnId s) s ∷ []) ≡ inTurn port s
+          → inOrder (turn ∷ countWithin count ∷ algorithmChecked (numbered number) ∷ seedChecked seed ∷ seedOther seed (ownAccount port s) ∷ [])
+          ≡ inTurn port s
       go Checked.Good e = absurd (turn-refuses port (sym e))
       go (Checked.Refused why) e = e
 
@@ -190,17 +190,40 @@ leave-answer port s = ap checkedAnswer (settled-answer s _ (leaveChecked port s)
 
 -- ---- in tables that calls make nobody is in line then
 
+-- Nobody is in the room's line.
+Empty : Held → Type 0
+Empty held = held .line ≡ empty
+
+nowhere-in-line : (port : ℕ) (rooms : List Held) → Each Empty rooms → standsAt port rooms ≡ length rooms
+unfolding standsAt Empty some
+nowhere-in-line port [] h = refl
+nowhere-in-line port (held ∷ rooms) h =
+    ap₂ (λ (in-line : Bool) (n : ℕ). cond in-line 0 (suc n)) (ap (standsIn port) (h .0)) (nowhere-in-line port rooms (h .1))
+
+lines-stand : (rooms : List Held) → Each Empty rooms → map (lined ticked) rooms ≡ rooms
+unfolding Empty ticked
+lines-stand [] h = refl
+lines-stand (held ∷ rooms) h =
+    ap₂ (λ (w : Waiting) (l : List Held). record { account = held .account; line = w } ∷ l) (ap ticked (h .0) ∙ sym (h .0)) (lines-stand rooms (h .1))
+
 module _ (s : State) (m : Made s) (none : accountsIn (s .rooms) ≡ 0) where
-  pub nobody-waits : s .line .places ≡ []
-  nobody-waits = go (s .line .places) (m .there)
+  all-empty : Each Empty (s .rooms)
+  unfolding Empty Free
+  all-empty = go (s .rooms) (all-free (s .rooms) none) (m .idle)
     where
-      go : (l : List Place) → Each (λ (place : Place). isThere (place .id) s ≡ true) l → l ≡ []
-      go [] h = refl
-      go (x ∷ xs) h = absurd (true≢false (sym (h .0) ∙ not-there s none (x .id)))
+      go : (l : List Held) → Each Free l → Each Idle l → Each Empty l
+      go [] f h = tt
+      go (held ∷ l) f h = (h .0 (f .0), go l (f .1) (h .1))
+
+  pub lines-empty : (id : ℕ) → lineOf id s ≡ empty
+  unfolding Empty
+  lines-empty id = each-get Empty (s .rooms) (placeOf id (s .rooms)) freeRoom all-empty refl
+
+  pub nobody-waits : (port : ℕ) → waits port s ≡ false
+  nobody-waits port = rw (nowhere-in-line port (s .rooms) all-empty) (le-ltb (length (s .rooms)) (length (s .rooms)) (le-refl _))
 
   out-of-line : (port : ℕ) → inLine port s ≡ outside
-  unfolding some
-  out-of-line port = ap (λ (l : List Place). must (some (ofPort port) l) Refusal.PortNotInLine) nobody-waits
+  out-of-line port = ap (λ (b : Bool). must b Refusal.PortNotInLine) (nobody-waits port)
 
   pub turn-outside : (port : ℕ) → inTurn port s ≡ inOrder (portKnown port ∷ outside ∷ [])
   turn-outside port = ap (λ (k : Checked). inOrder (portKnown port ∷ k ∷ inFront port s ∷ missing ∷ [])) (out-of-line port)
@@ -211,7 +234,6 @@ module _ (s : State) (m : Made s) (none : accountsIn (s .rooms) ≡ 0) where
       settled-refused s _ (leaveChecked port s) (inOrder (portKnown port ∷ outside ∷ []))
       (ap (λ (k : Checked). inOrder (portKnown port ∷ k ∷ [])) (out-of-line port)) (ends-refused (portKnown port ∷ []) Refusal.PortNotInLine)
 
-  pub tick-cools : Steps.tick s ≡ record { rooms = s .rooms; ports = map cooled (s .ports); line = s .line }
+  pub tick-cools : Steps.tick s ≡ record { rooms = s .rooms; ports = map cooled (s .ports) }
   unfolding Steps.tick
-  tick-cools =
-      ap (λ (w : Waiting). record { rooms = s .rooms; ports = map cooled (s .ports); line = w }) (ticked-none (s .line) (ap first nobody-waits))
+  tick-cools = ap (λ (rooms : List Held). record { rooms = rooms; ports = map cooled (s .ports) }) (lines-stand (s .rooms) all-empty)

@@ -19,11 +19,10 @@ use Rattle.password.specs.Algorithm.{numbered}
 use Rattle.password.specs.Password.{bytesOf, hash}
 use Rattle.challenge.specs.Challenges.{challengeText, challengeWrittenBy}
 use Rattle.reply.specs.Reply.{readingOf}
-use Rattle.line.specs.Line.{standsIn}
 use Rattle.port.specs.Port.{wrongAnswer}
-use Rattle.accounts.specs.Rooms.{Room, holds}
+use Rattle.accounts.specs.Rooms.{Room}
 use Rattle.accounts.specs.Accounts.{lowered, newRoom}
-use Rattle.table.specs.Table.{State, isThere, accountOf, portOf, turnId}
+use Rattle.table.specs.Table.{State, holds, isThere, accountOf, portOf, waits, ownAccount}
 use Rattle.table.specs.TableChecks.{accountThere}
 use Rattle.table.specs.Steps as Steps
 use Rattle.table.specs.Steps.{refused, replyRefused, done, enrolChecked, joinChecked, leaveChecked, turnChecked, renewChecked, offered, read}
@@ -90,10 +89,10 @@ module _ (why : Refusal) (wrong : isIn (listingOf why .0) (61 ∷ 62 ∷ []) ≡
   challenge-other : (port room : ℕ) (s : State) → answer (Call.Challenge port room) s ≡ Answer.Refused why → ⊥
   unfolding Steps.challenge challengeWrittenBy
   challenge-other port room s =
-      let stored = accountOf (turnId s) s .seed in
-      let text = challengeText (accountOf (turnId s) s .algorithm) stored (accountOf (turnId s) s .count - 1) in
+      let stored = ownAccount port s .seed in
+      let text = challengeText (ownAccount port s .algorithm) stored (ownAccount port s .count - 1) in
       go (turnChecked port s) (turn-other port s) (seedChecked stored) (seed-never (61 ∷ 62 ∷ []) why wrong stored refl refl)
-      (ltb 9999 (accountOf (turnId s) s .count - 1)) (leb (length text) room) (length text)
+      (ltb 9999 (ownAccount port s .count - 1)) (leb (length text) room) (length text)
     where
       as-check : (w : Refusal) → Other (Checked.Refused w) → Answer.Refused w ≡ Answer.Refused why → ⊥
       as-check w n e = let same : w ≡ why = cc in n (ap Checked.Refused same)
@@ -117,7 +116,7 @@ module _ (why : Refusal) (wrong : isIn (listingOf why .0) (61 ∷ 62 ∷ []) ≡
   offered-wrong : (port w : ℕ) (next : Room) (s : State) → repliedAnswer (offered port w next s .answer) ≡ Answer.Refused why
       → Rejected port s (offered port w next s .state)
   unfolding offered Rejected
-  offered-wrong port w next s = go (eqb (hash (accountOf (turnId s) s .algorithm) (bytesOf w)) (accountOf (turnId s) s .password))
+  offered-wrong port w next s = go (eqb (hash (ownAccount port s .algorithm) (bytesOf w)) (ownAccount port s .password))
     where
       go : (t : Bool) → repliedAnswer (cond t (Steps.accepted port next s) (Steps.rejected port s) .answer) ≡ Answer.Refused why
           → (why ≡ wrongAnswer (portOf port s)) × (cond t (Steps.accepted port next s) (Steps.rejected port s) .state ≡ Steps.rejected port s .state)
@@ -153,17 +152,17 @@ module _ (why : Refusal) (wrong : isIn (listingOf why .0) (61 ∷ 62 ∷ []) ≡
   wrong-reply (Call.Join port id) s e =
       absurd (settled-other s _ (joinChecked port id s)
       (checks-other (test (leb port 3) Refusal.PortUnknown ∷ test (isThere id s) Refusal.AccountMissing
-      ∷ test (not (standsIn port (s .line))) Refusal.PortInLine ∷ test (eqb (portOf port s .shut) 0) Refusal.PortShut
+      ∷ test (not (waits port s)) Refusal.PortInLine ∷ test (eqb (portOf port s .shut) 0) Refusal.PortShut
       ∷ test (ltb 1 (accountOf id s .count)) Refusal.AccountUsedUp ∷ []) refl) e)
   wrong-reply (Call.Leave port) s e =
       absurd (settled-other s _ (leaveChecked port s)
-      (checks-other (test (leb port 3) Refusal.PortUnknown ∷ test (standsIn port (s .line)) Refusal.PortNotInLine ∷ []) refl) e)
+      (checks-other (test (leb port 3) Refusal.PortUnknown ∷ test (waits port s) Refusal.PortNotInLine ∷ []) refl) e)
   wrong-reply (Call.Challenge port room) s e = absurd (challenge-other port room s e)
   wrong-reply (Call.Reply port text) s e =
       wrong-at port _ s (Presents.by-reply text)
-      (replied-wrong port s (turnChecked port s) (turn-other port s) text (lowered (accountOf (turnId s) s)) e)
+      (replied-wrong port s (turnChecked port s) (turn-other port s) text (lowered (ownAccount port s)) e)
   wrong-reply (Call.Renew port number count seed new text) s e =
       wrong-at port _ s (Presents.by-renew number count seed new text)
       (replied-wrong port s (renewChecked port number count seed s) (renew-other port number count seed s) text
-      (λ w. newRoom (accountOf (turnId s) s .id) number count seed new) e)
+      (λ w. newRoom (ownAccount port s .id) number count seed new) e)
   wrong-reply Call.Tick s e = let z : _≡_ {A = ℕ} 0 1 = cc in absurd (omega arith)

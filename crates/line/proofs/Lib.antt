@@ -1,4 +1,7 @@
 -- What the proofs of `line`'s functions share.
-pub mod Placed
+pub mod Taken
+pub mod Seen
+pub mod Flat
+pub mod Changed
 pub mod Joined
-pub mod Staying
+pub mod RoomFound

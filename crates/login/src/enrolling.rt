@@ -76,9 +76,9 @@ pub fn remove(table: Table, id: u16) -> Settled
         return Settled { table, answer };
     }
     let mut next = put(table, place, FREE);
-    let waiting = table.line;
-    let line = line::remove(waiting, id);
-    next.line = line;
+    let waiting = next.lines;
+    let lines = line::remove(waiting, place);
+    next.lines = lines;
     Settled {
         table: next,
         answer,

@@ -1,11 +1,14 @@
-// The call of a port that joins the line.
+// The call of a port that joins an account's line.
 ghost use mathlib.Core.Path.{_≡_};
 ghost use lib.Dec.{eqb};
 ghost use lib.ListN.{getD};
 ghost use Rattle.refusal.specs.Checks.{inOrder};
+ghost use Rattle.accounts.specs.Rooms.{roomOf};
 ghost use Rattle.table.specs.Table.{view, freshPort};
 ghost use Rattle.table.specs.Steps as steps;
-ghost use Rattle.login.specs.Inside.{joinChecks};
+ghost use Rattle.login.specs.Inside.{joinChecks, joinFound};
+use accounts::Account;
+use line::has;
 use port::Port;
 use refusal::Checked;
 use refusal::Refusal;
@@ -48,26 +51,33 @@ fn join_answer(known: bool, there: bool, out: bool, unshut: bool, unused: bool) 
     Checked::Good
 }
 
-fn check_join(table: Table, port: u8, id: u16) -> Checked
-    ensures { λ r. ⌜ r ≡ steps.joinChecked port id (view table) ⌝ }
+// The account is what was found where its id was looked up: a free room where it isn't there.
+fn check_join(table: Table, port: u8, account: Account) -> Checked
+    ensures { λ r. ⌜ r ≡ inOrder (joinFound port (roomOf account) (view table)) ⌝ }
 {
-    let account = account_at(table, place_of(table, id));
-    let waiting = table.line;
-    let out = !line::has(waiting, port);
+    let lines = table.lines;
+    let inside = has(lines, port);
     let ports = table.ports;
     let unshut = is_open(ports, port);
-    join_answer(port <= 3, account.id != 0, out, unshut, 1 < account.count)
+    join_answer(
+        port <= 3,
+        account.id != 0,
+        !inside,
+        unshut,
+        1 < account.count,
+    )
 }
 
 pub fn join(mut table: Table, port: u8, id: u16) -> Settled
     ensures { λ r. ⌜ steps.settled r ≡ steps.join port id (view table) ⌝ }
 {
-    let answer = check_join(table, port, id);
+    let place = place_of(table, id);
+    let answer = check_join(table, port, account_at(table, place));
     if let Checked::Refused(_) = answer {
         return Settled { table, answer };
     }
-    let waiting = table.line;
-    let line = line::join(waiting, port, id);
-    table.line = line;
+    let waiting = table.lines;
+    let lines = line::join(waiting, port, place);
+    table.lines = lines;
     Settled { table, answer }
 }

@@ -1,7 +1,8 @@
-// The call of a port that leaves the line.
+// The call of a port that leaves its line.
 ghost use mathlib.Core.Path.{_≡_};
 ghost use Rattle.table.specs.Table.{view};
 ghost use Rattle.table.specs.Steps as steps;
+use line::has;
 use refusal::Checked;
 use refusal::Refusal;
 use table::Settled;
@@ -13,8 +14,8 @@ fn check_leave(table: Table, port: u8) -> Checked
     if 3 < port {
         return Checked::Refused(Refusal::PortUnknown);
     }
-    let waiting = table.line;
-    if line::has(waiting, port) {
+    let lines = table.lines;
+    if has(lines, port) {
         return Checked::Good;
     }
     Checked::Refused(Refusal::PortNotInLine)
@@ -27,8 +28,8 @@ pub fn leave(mut table: Table, port: u8) -> Settled
     if let Checked::Refused(_) = answer {
         return Settled { table, answer };
     }
-    let waiting = table.line;
-    let line = line::leave(waiting, port);
-    table.line = line;
+    let waiting = table.lines;
+    let lines = line::leave(waiting, port);
+    table.lines = lines;
     Settled { table, answer }
 }

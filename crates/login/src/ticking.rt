@@ -26,8 +26,8 @@ pub fn tick(mut table: Table) -> Table
     let own = table.ports;
     let ports = ticked(own);
     table.ports = ports;
-    let waiting = table.line;
-    let line = line::tick(waiting);
-    table.line = line;
+    let waiting = table.lines;
+    let lines = line::tick(waiting);
+    table.lines = lines;
     table
 }

@@ -1,9 +1,10 @@
 // Repeats one call of the login table, for the benchmark: the call's letter, 0, 1 or 3 for 0, 1 or 32 accounts, and how many thousand times.
-// Prints what the last table has: ports in line, the ticks of the turn, port 0's wrong run, port 3's shut ticks.
+// Prints what the last table has: ports in line, the turns of the first of them and of the fourth, port 0's wrong run, port 3's shut ticks.
 use generator::chain::step;
 use generator::generate;
 use libc::STDIN_FILENO;
 use libc::STDOUT_FILENO;
+use line::Lines;
 use password::algorithm::Algorithm;
 use password::algorithm::number_of;
 use password::eight_bytes::bytes_of;
@@ -42,15 +43,37 @@ fn table_of(algorithm: u32, accounts: u16) -> Table {
     t
 }
 
+// The lines with that many places in use.
+fn with_len(mut lines: Lines, len: u8) -> Lines {
+    lines.len = len as usize;
+    lines
+}
+
+// The turn in a place; 0 where nobody stands there.
+fn turn_in(lines: Lines, at: usize) -> u8 {
+    if lines.len <= at {
+        return 0;
+    }
+    if 3 < at {
+        return 0;
+    }
+    let places = lines.places;
+    let place = places[at];
+    place.turn
+}
+
 // Challenge leaves the table as it is: the first byte that was written stands in for a change.
 fn challenged(table: Table, port: u8) -> Table {
     let mut buf = [0u8; 64];
     login::challenge(table, port, &mut buf);
     let rooms = table.rooms;
     let ports = table.ports;
-    let mut line = table.line;
-    line.turn = buf[0];
-    Table { rooms, ports, line }
+    let lines = with_len(table.lines, buf[0]);
+    Table {
+        rooms,
+        ports,
+        lines,
+    }
 }
 
 // Ports 1, 2 and 3 wait for that account.
@@ -58,6 +81,14 @@ fn others_join(table: Table, id: u16) -> Table {
     let first = login::join(table, 1, id).table;
     let second = login::join(first, 2, id).table;
     login::join(second, 3, id).table
+}
+
+// Of 32 accounts the last four have a port in line each.
+fn four_lines(table: Table) -> Table {
+    let first = login::join(table, 0, 32).table;
+    let second = login::join(first, 1, 31).table;
+    let third = login::join(second, 2, 30).table;
+    login::join(third, 3, 29).table
 }
 
 // The port joins and types a wrong password.
@@ -73,11 +104,14 @@ fn shut(table: Table, port: u8, id: u16) -> Table {
     mistyped(second, port, id)
 }
 
-// The table that a call finds: port 0 in front of three others; for Join without port 0; for the ticks of the letter u with the three shut.
+// The table that a call finds: port 0 in front of three others; for Join without port 0; for the ticks of the letter u with the three shut; for
+// those of the letter f, and for leaving by the letter m, each port in a line of its own, in the latter since a tick.
 fn prepared(call: u8, table: Table, id: u16) -> Table {
     match call {
         b'e' | b'i' => table,
         b'j' => others_join(table, id),
+        b'f' => four_lines(table),
+        b'm' => login::tick(four_lines(table)),
         b'u' => {
             let one = shut(table, 1, id);
             let two = shut(one, 2, id);
@@ -92,7 +126,7 @@ fn prepared(call: u8, table: Table, id: u16) -> Table {
 }
 
 fn is_tick(call: u8) -> bool {
-    (call == b'i') | (call == b't') | (call == b'u')
+    (call == b'i') | (call == b't') | (call == b'f') | (call == b'u')
 }
 
 fn once(call: u8, table: Table, port: u8, id: u16) -> Table {
@@ -101,26 +135,26 @@ fn once(call: u8, table: Table, port: u8, id: u16) -> Table {
         b'e' => login::enrol(table, 1000, 1, 99, b"AValidSeed", &stored).table,
         b'r' => login::remove(table, id).table,
         b'j' => login::join(table, port, id).table,
-        b'l' => login::leave(table, port).table,
+        b'l' | b'm' => login::leave(table, port).table,
         b'c' => challenged(table, port),
         b'h' => login::reply(table, port, b"85C4 3EE0 3857 765B").table,
         b'w' => login::reply(table, port, b"FOWL KID MASH DEAD DUAL OAF").table,
         b'H' => login::reply(table, port, b"C891 F389 B68D E9EC").table,
         b'W' => login::reply(table, port, b"ONCE GRAB SOOT CUBE SLAY WAIT").table,
         b'n' => login::renew(table, port, 1, 99, b"dog2", &stored, b"85C4 3EE0 3857 765B").table,
-        b'i' | b't' | b'u' => login::tick(table),
+        b'i' | b't' | b'f' | b'u' => login::tick(table),
         _ => table,
     }
 }
 
-// Each repetition's port comes from the table before it (0: a turn is at most 60, and a challenge starts with the letter o), so that none can be left out.
+// Each repetition's port comes from the table before it (0: four wait at most, and a challenge starts with the letter o), so that none can be left out.
 // Ticks go on from the table before: the 60 of a turn, in the last of which the front leaves, and then those of the same turn again.
 fn repeat(call: u8, start: Table, id: u16, times: u64) -> Table {
     let ticks = is_tick(call);
     let mut last = start;
     let mut k = 0;
     while k < times {
-        let port = last.line.turn / 200;
+        let port = if last.lines.len < 200 { 0 } else { 1 };
         let from = if ticks & (k % 60 != 0) { last } else { start };
         last = once(call, from, port, id);
         k += 1;
@@ -144,7 +178,7 @@ fn print_number(n: u64, after: &[u8]) {
     io::write_all(STDOUT_FILENO, after);
 }
 
-// What is repeated: with how many accounts, the ports in line for the last of them.
+// What is repeated: with how many accounts, the ports in line for the last of them, or for the last four.
 fn measure(call: u8, accounts: u16, times: u64) {
     let algorithm = number_of(algorithm_of(call));
     let start = prepared(call, table_of(algorithm, accounts), accounts);
@@ -152,8 +186,10 @@ fn measure(call: u8, accounts: u16, times: u64) {
     let ports = last.ports;
     let first = ports[0];
     let fourth = ports[3];
-    print_number(last.line.len as u64, b" ");
-    print_number(last.line.turn as u64, b" ");
+    let lines = last.lines;
+    print_number(lines.len as u64, b" ");
+    print_number(turn_in(lines, 0) as u64, b" ");
+    print_number(turn_in(lines, 3) as u64, b" ");
     print_number(first.wrong as u64, b" ");
     print_number(fourth.shut as u64, b"\n");
 }

@@ -3,7 +3,7 @@
 use Prim.Native.Nat.{ℕ, _+_, _<_}
 use mathlib.Core.Path.{_≡_}
 use mathlib.Core.List.{List}
-use lib.ListN.{length, take, set}
+use lib.ListN.{length, take}
 use Rattle.refusal.specs.declared.Refusal.{Refusal}
 use Rattle.refusal.specs.declared.Reading.{Reading}
 use Rattle.refusal.specs.declared.Written.{Written}
@@ -17,12 +17,12 @@ use Rattle.challenge.specs.Challenges.{challengeOf, seedOf}
 use Rattle.hex.specs.Hex.{hexOf}
 use Rattle.reply.specs.Reply.{readingOf}
 use Rattle.sixwords.specs.Spelling.{wordsOf}
-use Rattle.line.specs.Line as Line
 use Rattle.port.specs.Port.{wrongly, wrongAnswer}
 use Rattle.table.specs.declared.Replied.{Replied}
 use Rattle.accounts.specs.Rooms.{Room}
 use Rattle.accounts.specs.Accounts.{newRoom}
-use Rattle.table.specs.Table.{State, accountOf, portOf}
+use Rattle.table.specs.Table.{State, roomAt, accountOf, portOf, standsAt, withPort}
+use Rattle.table.specs.Steps as steps
 use Rattle.table.specs.Steps.{challengeFor, challenge, reply}
 use Rattle.reached.specs.Calls.{Call, after}
 
@@ -45,6 +45,10 @@ pub record Renewed (number count : ℕ) (seed new text : List ℕ) (old room : R
   pub presented : ℕ
   pub read : readingOf text ≡ Reading.Password presented
   pub old-is-hash : old .password ≡ hash (old .algorithm) (bytesOf presented)
+
+-- The account that the port waits for in the table s, as the table t has it.
+abbrev pub waitedFor : ℕ → State → State → Room
+waitedFor p s t = roomAt (standsAt p (s .rooms)) t .account
 
 -- What a pass-phrase gives at a count, with the account's own algorithm and seed.
 abbrev pub passwordOf : List ℕ → Room → ℕ → ℕ
@@ -74,9 +78,9 @@ pub record Day (p i : ℕ) (phrase buffer : List ℕ) (s t : State) : Type 0 whe
   pub used : ℕ
   pub generated-as : ℕ
   pub challenge-written : challenge p (length buffer) s ≡ Written.Wrote written
-  pub challenge-read : challengeOf (take written (leaves (Written.Wrote written) (challengeFor s) buffer)) ≡ Challenge.Read algorithm count start len used
+  pub challenge-read : challengeOf (take written (leaves (Written.Wrote written) (challengeFor p s) buffer)) ≡ Challenge.Read algorithm count start len used
   pub password-generated :
-      generated (algorithmNumber algorithm) phrase (seedOf (take written (leaves (Written.Wrote written) (challengeFor s) buffer))) count
+      generated (algorithmNumber algorithm) phrase (seedOf (take written (leaves (Written.Wrote written) (challengeFor p s) buffer))) count
       ≡ Reading.Password generated-as
   pub algorithm-own : algorithm ≡ accountOf i s .algorithm
   pub count-less : count + 1 ≡ accountOf i s .count
@@ -95,4 +99,4 @@ pub record WrongReply (why : Refusal) (c : Call) (s : State) : Type 0 where
   pub port : ℕ
   pub presented : Presents port c
   pub answered : why ≡ wrongAnswer (portOf port s)
-  pub changed : after c s ≡ record { rooms = s .rooms; ports = set (s .ports) port (wrongly (portOf port s)); line = Line.left port (s .line) }
+  pub changed : after c s ≡ steps.leaves port (withPort port (wrongly (portOf port s)) s)

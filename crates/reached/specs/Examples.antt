@@ -7,10 +7,9 @@ use Rattle.text.specs.Tests.{every}
 use Rattle.text.specs.Quoted.{codes}
 use Rattle.password.specs.PhraseAndSeed.{plain}
 use Rattle.password.specs.Password.{numberAfter}
-use Rattle.line.specs.Line.{some, joined, others, turnWithout, without, ticked}
-use Rattle.accounts.specs.Rooms.{placeOf}
-use Rattle.table.specs.Table.{fresh}
-use Rattle.table.specs.Steps.{enrolChecked, enrol, joinChecked, join, tick}
+use Rattle.line.specs.Line.{some, ticked}
+use Rattle.table.specs.Table.{fresh, placeOf, lineOf, inLines, standsAt}
+use Rattle.table.specs.Steps.{enrolChecked, enrol, joinChecked, joins, join, tick}
 use Rattle.reached.specs.Calls.{Call, run, answers, numbers}
 
 -- A password of eight bytes.
@@ -30,14 +29,14 @@ unfolding run tick ticked
 empty-ticks = refl
 
 -- "the first enrol, then join, has the turn at once": port 0 is in front, with 60 ticks.
-pub first-join : run (enrolled ∷ Call.Join 0 1 ∷ []) fresh .line ≡ record { places = record { port = 0; id = 1 } ∷ []; turn = 60 }
-unfolding run enrolChecked enrol joinChecked join placeOf some joined plain every numberAfter codes
+pub first-join : lineOf 1 (run (enrolled ∷ Call.Join 0 1 ∷ []) fresh) ≡ record { ports = 0 ∷ []; turn = 60 }
+unfolding run enrolChecked enrol joinChecked joins join placeOf standsAt inLines some plain every numberAfter codes
 first-join = refl
 
 -- "and loses it on tick 60", not before: one tick left after 59.
-pub first-turn : map (λ n. run (enrolled ∷ Call.Join 0 1 ∷ ticks n) fresh .line) (59 ∷ 60 ∷ [])
-    ≡ record { places = record { port = 0; id = 1 } ∷ []; turn = 1 } ∷ record { places = []; turn = 0 } ∷ []
-unfolding run enrolChecked enrol joinChecked join placeOf some joined plain every numberAfter codes tick ticked without others turnWithout
+pub first-turn : map (λ n. lineOf 1 (run (enrolled ∷ Call.Join 0 1 ∷ ticks n) fresh)) (59 ∷ 60 ∷ [])
+    ≡ record { ports = 0 ∷ []; turn = 1 } ∷ record { ports = []; turn = 0 } ∷ []
+unfolding run enrolChecked enrol joinChecked joins join placeOf standsAt inLines some plain every numberAfter codes tick ticked
 first-turn = refl
 
 -- "Enrolling `A Seed`: 24."

@@ -1,10 +1,11 @@
--- The words of the letter's third demand: ticks, quiet calls, a port's turn for an account.
+-- The words of the letter's third demand and of R-4: ticks, quiet calls, a port's turn for an account, calls elsewhere.
 use Prim.Native.Nat.{ℕ, _+_, _≤_}
 use mathlib.Core.Path.{_≡_}
 use mathlib.Core.Bool.{Bool, true, false, not, _&&_, _||_}
 use mathlib.Core.List.{List, [], _∷_, _++_}
 use lib.Dec.{eqb}
-use Rattle.table.specs.Table.{State, fresh, hasTurn, turnId}
+use Rattle.line.specs.Line.{standsIn, frontOf}
+use Rattle.table.specs.Table.{State, fresh, lineOf, isFront}
 use Rattle.reached.specs.Calls.{Call, after, run}
 
 -- "From a fresh table, after any calls": the table s is one that calls make.
@@ -50,16 +51,17 @@ keepsAlgorithm i (Call.Reply port text) = true
 keepsAlgorithm i (Call.Renew port number count seed password text) = false
 keepsAlgorithm i Call.Tick = true
 
+-- The port p has the turn for the account i: it is in front of the account's line.
+abbrev pub hasTurnFor : ℕ → ℕ → State → Bool
+hasTurnFor p i s = isFront p (frontOf (lineOf i s))
+
+abbrev pub HasTurn : ℕ → ℕ → State → Type 0
+HasTurn p i s = hasTurnFor p i s ≡ true
+
 -- "meanwhile": each call is quiet up to the moment at which p has the turn for i.
 unfoldable pub quietMeanwhile : ℕ → ℕ → List Call → State → Bool
 quietMeanwhile p i [] s = true
-quietMeanwhile p i (call ∷ calls) s =
-    hasTurn p s && eqb (turnId s) i || quiet p i call && quietMeanwhile p i calls (after call s)
-
--- The port p has the turn, and it is for the account i.
-pub record HasTurn (p i : ℕ) (s : State) : Type 0 where
-  pub front : hasTurn p s ≡ true
-  pub account : turnId s ≡ i
+quietMeanwhile p i (call ∷ calls) s = hasTurnFor p i s || quiet p i call && quietMeanwhile p i calls (after call s)
 
 -- "has its turn begin by the 180th tick": along the calls, from the table s, there is a moment after at most `limit` ticks at
 -- which p has the turn for i, with all of its 60 ticks.
@@ -69,4 +71,38 @@ pub record TurnBegins (p i limit : ℕ) (calls : List Call) (s : State) : Type 0
   pub parted : calls ≡ early ++ late
   pub soon : ticks early ≤ limit
   pub turn : HasTurn p i (run early s)
-  pub whole : run early s .line .turn ≡ 60
+  pub whole : lineOf i (run early s) .turn ≡ 60
+
+-- The call is made by that port; it is a Join for that account.
+abbrev pub madeBy : ℕ → Call → Bool
+madeBy p (Call.Enrol id number count seed password) = false
+madeBy p (Call.Remove id) = false
+madeBy p (Call.Join port id) = eqb port p
+madeBy p (Call.Leave port) = eqb port p
+madeBy p (Call.Challenge port room) = eqb port p
+madeBy p (Call.Reply port text) = eqb port p
+madeBy p (Call.Renew port number count seed password text) = eqb port p
+madeBy p Call.Tick = false
+
+abbrev pub joinsFor : ℕ → Call → Bool
+joinsFor i (Call.Enrol id number count seed password) = false
+joinsFor i (Call.Remove id) = false
+joinsFor i (Call.Join port id) = eqb id i
+joinsFor i (Call.Leave port) = false
+joinsFor i (Call.Challenge port room) = false
+joinsFor i (Call.Reply port text) = false
+joinsFor i (Call.Renew port number count seed password text) = false
+joinsFor i Call.Tick = false
+
+-- R-4, "Calls of ports in other lines": the call is elsewhere, seen from the account i. It is no tick, it does not remove the account, the port
+-- that makes it isn't in the account's line, and it is no Join for that account. (Challenge only looks, and a Join for another account is
+-- elsewhere whoever makes it.)
+abbrev pub elsewhere : ℕ → State → Call → Bool
+elsewhere i s (Call.Enrol id number count seed password) = true
+elsewhere i s (Call.Remove id) = not (eqb id i)
+elsewhere i s (Call.Join port id) = not (eqb id i)
+elsewhere i s (Call.Leave port) = not (standsIn port (lineOf i s))
+elsewhere i s (Call.Challenge port room) = true
+elsewhere i s (Call.Reply port text) = not (standsIn port (lineOf i s))
+elsewhere i s (Call.Renew port number count seed password text) = not (standsIn port (lineOf i s))
+elsewhere i s Call.Tick = false

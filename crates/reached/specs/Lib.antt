@@ -1,9 +1,10 @@
--- Runs of calls, equal tables, and the laws of the tables that calls make: what is found in their rooms, what a call can do to them, what stays.
+-- Runs of calls, equal tables, and the laws of the tables that calls make: what is found in their rooms and lines, what a call can do to them, what stays.
 -- Made, InTurn and Day have the words of the demands on tables.
 pub mod Calls
 pub mod Equal
 pub mod RoomsFound
 pub mod RoomsChanged
+pub mod LinesChanged
 pub mod Outcome
 pub mod EqualLaws
 pub mod Laws

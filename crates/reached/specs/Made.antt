@@ -6,29 +6,29 @@ use mathlib.Core.List.{List, [], _∷_}
 use lib.ListN.{length}
 use Rattle.text.specs.Kinds.{isLower, isDigit}
 use Rattle.text.specs.Tests.{every}
-use Rattle.line.specs.declared.Place.{Place}
-use Rattle.line.specs.Line.{Waiting, ofPort, some}
+use Rattle.line.specs.Line.{Waiting, empty, ofPort, some}
 use Rattle.port.specs.declared.Port.{Port}
 use Rattle.accounts.specs.Rooms.{Room}
-use Rattle.table.specs.Table.{State, isThere, portOf}
+use Rattle.table.specs.Table.{State, Held, portOf, inLines}
 use Rattle.refusal.specs.Each.{Each}
 
--- ---- the line
+-- ---- the lines
 
--- No port stands in it twice.
-abbrev pub Once : List Place → Type 0
+-- No port stands among these twice.
+abbrev pub Once : List ℕ → Type 0
 Once [] = Unit {0}
-Once (place ∷ places) = (some (ofPort (place .port)) places ≡ false) × Once places
+Once (port ∷ ports) = (some (ofPort port) ports ≡ false) × Once ports
 
 -- "while the line is empty the turn stands at 0"; otherwise 1 to 60 ticks are left.
-abbrev pub TurnRight : List Place → ℕ → Type 0
+abbrev pub TurnRight : List ℕ → ℕ → Type 0
 TurnRight [] turn = turn ≡ 0
-TurnRight (place ∷ places) turn = (1 ≤ turn) × (turn ≤ 60)
+TurnRight (port ∷ ports) turn = (1 ≤ turn) × (turn ≤ 60)
 
+-- One line: no port over 3, none twice, and its turn.
 pub record Standing (w : Waiting) : Type 0 where
-  pub known : Each (λ (place : Place). place .port ≤ 3) (w .places)
-  pub once : Once (w .places)
-  pub turn : TurnRight (w .places) (w .turn)
+  pub known : Each (λ (port : ℕ). port ≤ 3) (w .ports)
+  pub once : Once (w .ports)
+  pub turn : TurnRight (w .ports) (w .turn)
 
 -- ---- the accounts
 
@@ -45,24 +45,33 @@ pub record AccountGood (room : Room) : Type 0 where
   pub seed-kept : every isKept (room .seed) ≡ true
 
 -- Rooms in use have different ids.
-abbrev pub Apart : List Room → Type 0
+abbrev pub Apart : List Held → Type 0
 Apart [] = Unit {0}
-Apart (room ∷ rooms) = ((room .id ≡ 0 → ⊥) → Each (λ (other : Room). other .id ≡ room .id → ⊥) rooms) × Apart rooms
+Apart (held ∷ rooms) = ((held .account .id ≡ 0 → ⊥) → Each (λ (other : Held). other .account .id ≡ held .account .id → ⊥) rooms) × Apart rooms
 
 -- An account that is in use is a good one.
-abbrev pub RoomGood : Room → Type 0
-RoomGood room = (room .id ≡ 0 → ⊥) → AccountGood room
+abbrev pub RoomGood : Held → Type 0
+RoomGood held = (held .account .id ≡ 0 → ⊥) → AccountGood (held .account)
+
+-- Nobody waits for an account that isn't there.
+abbrev pub Idle : Held → Type 0
+Idle held = held .account .id ≡ 0 → held .line ≡ empty
+
+abbrev pub LineRight : Held → Type 0
+LineRight held = TurnRight (held .line .ports) (held .line .turn)
 
 abbrev pub PortGood : Port → Type 0
 PortGood port = (port .wrong ≤ 2) × (port .shut ≤ 900)
 
--- The line: no port over 3, none twice, 1 to 60 ticks left, 0 where it is empty; each port in it waits for an account that is
--- there and is not shut. The rooms: 32, those in use with different ids, each with a count of 1 to 9,999 and a seed of 1 to 16
--- lower-case letters and digits. The ports: four, each with 0 to 2 wrong replies in a row and 0 to 900 shut ticks.
+-- The lines: in all of them together no port over 3, none twice and none that is shut; each with 1 to 60 ticks left, 0 where it is empty;
+-- nobody waits for an account that isn't there. The rooms: 32, those in use with different ids, each with a count of 1 to 9,999 and a seed of
+-- 1 to 16 lower-case letters and digits. The ports: four, each with 0 to 2 wrong replies in a row and 0 to 900 shut ticks.
 pub record Made (s : State) : Type 0 where
-  pub standing : Standing (s .line)
-  pub there : Each (λ (place : Place). isThere (place .id) s ≡ true) (s .line .places)
-  pub unshut : Each (λ (place : Place). portOf (place .port) s .shut ≡ 0) (s .line .places)
+  pub known : Each (λ (port : ℕ). port ≤ 3) (inLines (s .rooms))
+  pub once : Once (inLines (s .rooms))
+  pub unshut : Each (λ (port : ℕ). portOf port s .shut ≡ 0) (inLines (s .rooms))
+  pub turns : Each LineRight (s .rooms)
+  pub idle : Each Idle (s .rooms)
   pub room-count : length (s .rooms) ≡ 32
   pub port-count : length (s .ports) ≡ 4
   pub good : Each RoomGood (s .rooms)

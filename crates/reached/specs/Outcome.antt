@@ -17,29 +17,27 @@ use Rattle.password.specs.PhraseAndSeed.{plain, seedChecked}
 use Rattle.password.specs.PhraseAndSeedLaws.{good-seed}
 use Rattle.password.specs.Password.{hash, bytesOf}
 use Rattle.reply.specs.Reply.{readingOf}
-use Rattle.line.specs.Line as Line
 use Rattle.line.specs.Line.{standsIn}
-use Rattle.accounts.specs.Rooms.{Room, free, placeOf, holds}
+use Rattle.accounts.specs.Rooms.{Room}
 use Rattle.table.specs.declared.Replied.{Replied}
-use Rattle.table.specs.Table.{State, isThere, accountOf, portOf, hasTurn, turnId, withRoom, withLine}
+use Rattle.table.specs.Table.{State, freeRoom, placeOf, holds, isThere, lineOf, portOf, waits, ownAccount, hasTurn, withRoom, withAccount}
 use Rattle.accounts.specs.Accounts.{newRoom, lowered}
 use Rattle.table.specs.TableChecks.{accountThere}
 use Rattle.table.specs.Steps as Steps
 use Rattle.table.specs.Steps.{After, enrolChecked, joinChecked, leaveChecked, turnChecked, renewChecked, offered, read}
 use Rattle.reached.specs.Calls.{Call, after}
-use Rattle.reached.specs.InTurn.{tickOf, quiet, keepsAlgorithm}
+use Rattle.reached.specs.InTurn.{tickOf, quiet, keepsAlgorithm, elsewhere}
 use Rattle.reached.specs.Made.{isKept, AccountGood}
 use Rattle.refusal.specs.Laws.{must-good}
 use Rattle.table.specs.StepLaws.{enrol-passed, join-passed, turn-passed, renew-passed}
-use Rattle.reached.specs.RoomsFound.{placed-id}
-use Rattle.reached.specs.RoomsChanged.{there-parts}
 
 -- What the checks of Challenge, Reply and Renew establish.
 pub record TurnGood (port : ℕ) (s : State) : Type 0 where
   pub known : port ≤ 3
+  pub inside : waits port s ≡ true
   pub front : hasTurn port s ≡ true
-  pub there : isThere (turnId s) s ≡ true
-  pub unused : 1 < accountOf (turnId s) s .count
+  pub there : ownAccount port s .id ≡ 0 → ⊥
+  pub unused : 1 < ownAccount port s .count
 
 -- The call is none that a quiet port makes; it removes no account that is to stay.
 abbrev pub NotBy : Call → ℕ → Type 0
@@ -48,21 +46,28 @@ NotBy c port = (p i : ℕ) → quiet p i c ≡ true → eqb port p ≡ false
 abbrev pub NotFor : Call → ℕ → Type 0
 NotFor c id = (p i : ℕ) → quiet p i c ≡ true → eqb id i ≡ false
 
+-- Seen from where the call is elsewhere: the port isn't in that account's line, the account is another.
+abbrev pub Outside : Call → State → ℕ → Type 0
+Outside c s port = (i : ℕ) → elsewhere i s c ≡ true → standsIn port (lineOf i s) ≡ false
+
+abbrev pub Another : Call → State → ℕ → Type 0
+Another c s id = (i : ℕ) → elsewhere i s c ≡ true → eqb id i ≡ false
+
 pub data Outcome (c : Call) (s : State) : State → Type 0 where
   nothing : tickOf c ≡ 0 → Outcome c s s
   enrolled : tickOf c ≡ 0 → (room : Room) → AccountGood room → (room .id ≡ 0 → ⊥) → isThere (room .id) s ≡ false
-      → holds 0 (s .rooms) ≡ true → Outcome c s (withRoom (placeOf 0 (s .rooms)) room s)
+      → holds 0 (s .rooms) ≡ true → Outcome c s (withAccount (placeOf 0 (s .rooms)) room s)
   removed : tickOf c ≡ 0 → (id : ℕ) → isThere id s ≡ true → NotFor c id → ((i : ℕ) → keepsAlgorithm i c ≡ true → eqb id i ≡ false)
-      → Outcome c s (withLine (Line.removed id (s .line)) (withRoom (placeOf id (s .rooms)) free s))
-  joined : tickOf c ≡ 0 → (port id : ℕ) → port ≤ 3 → isThere id s ≡ true → standsIn port (s .line) ≡ false
-      → portOf port s .shut ≡ 0 → NotBy c port → Outcome c s (withLine (Line.joined port id (s .line)) s)
-  left : tickOf c ≡ 0 → (port : ℕ) → NotBy c port → Outcome c s (withLine (Line.left port (s .line)) s)
-  accepted : tickOf c ≡ 0 → (port : ℕ) (next : Room) → TurnGood port s → NotBy c port → next .id ≡ turnId s
-      → (AccountGood (accountOf (turnId s) s) → AccountGood next)
-      → ((i : ℕ) → keepsAlgorithm i c ≡ true → next .algorithm ≡ accountOf (turnId s) s .algorithm)
+      → Another c s id → Outcome c s (withRoom (placeOf id (s .rooms)) freeRoom s)
+  joined : tickOf c ≡ 0 → (port id : ℕ) → port ≤ 3 → isThere id s ≡ true → waits port s ≡ false
+      → portOf port s .shut ≡ 0 → NotBy c port → Another c s id → Outcome c s (Steps.joins port id s)
+  left : tickOf c ≡ 0 → (port : ℕ) → NotBy c port → Outside c s port → Outcome c s (Steps.leaves port s)
+  accepted : tickOf c ≡ 0 → (port : ℕ) (next : Room) → TurnGood port s → NotBy c port → Outside c s port → next .id ≡ ownAccount port s .id
+      → (AccountGood (ownAccount port s) → AccountGood next)
+      → ((i : ℕ) → keepsAlgorithm i c ≡ true → next .algorithm ≡ ownAccount port s .algorithm)
       → Outcome c s (Steps.accepted port next s .state)
-  rejected : tickOf c ≡ 0 → (port : ℕ) → TurnGood port s → NotBy c port → Outcome c s (Steps.rejected port s .state)
-  ticked : tickOf c ≡ 1 → Outcome c s (Steps.tick s)
+  rejected : tickOf c ≡ 0 → (port : ℕ) → TurnGood port s → NotBy c port → Outside c s port → Outcome c s (Steps.rejected port s .state)
+  ticked : tickOf c ≡ 1 → ((i : ℕ) → elsewhere i s c ≡ false) → Outcome c s (Steps.tick s)
 
 -- ---- seeds
 
@@ -121,15 +126,15 @@ remove-outcome : (id : ℕ) (s : State) → Outcome (Call.Remove id) s (Steps.re
 unfolding Steps.remove
 remove-outcome id s =
     checked-outcome Checked.Refused (Call.Remove id) s (accountThere id s) _ refl
-    (λ e. Outcome.removed refl id (must-good _ _ e) (λ p i q. not-true (eqb id i) q) (λ i q. not-true (eqb id i) q))
+    (λ e. Outcome.removed refl id (must-good _ _ e) (λ p i q. not-true (eqb id i) q) (λ i q. not-true (eqb id i) q) (λ i q. not-true (eqb id i) q))
 
 pub join-good : (port id : ℕ) (s : State) → joinChecked port id s ≡ Checked.Good
-    → (port ≤ 3) × (isThere id s ≡ true) × (standsIn port (s .line) ≡ false) × (portOf port s .shut ≡ 0)
+    → (port ≤ 3) × (isThere id s ≡ true) × (waits port s ≡ false) × (portOf port s .shut ≡ 0)
 join-good port id s e =
     let passed = join-passed port id s e in (
       leb-true port 3 (passed .known),
       passed .there,
-      not-true (standsIn port (s .line)) (passed .out),
+      not-true (waits port s) (passed .out),
       eqb-true (portOf port s .shut) 0 (passed .unshut),
     )
 
@@ -139,50 +144,48 @@ join-outcome port id s =
     checked-outcome Checked.Refused (Call.Join port id) s (joinChecked port id s) _ refl
     (λ e.
     let facts = join-good port id s e in
-    Outcome.joined refl port id (facts .0) (facts .1) (facts .2) (facts .3) (λ p i q. not-true (eqb port p) q))
+    Outcome.joined refl port id (facts .0) (facts .1) (facts .2) (facts .3) (λ p i q. not-true (eqb port p) q) (λ i q. not-true (eqb id i) q))
 
 leave-outcome : (port : ℕ) (s : State) → Outcome (Call.Leave port) s (Steps.leave port s .state)
 unfolding Steps.leave
 leave-outcome port s =
     checked-outcome Checked.Refused (Call.Leave port) s (leaveChecked port s) _ refl
-    (λ e. Outcome.left refl port (λ p i q. not-true (eqb port p) q))
+    (λ e. Outcome.left refl port (λ p i q. not-true (eqb port p) q) (λ i q. not-true (standsIn port (lineOf i s)) q))
 
 pub turn-good : (port : ℕ) (s : State) → turnChecked port s ≡ Checked.Good → TurnGood port s
 turn-good port s e =
     let passed = turn-passed port s e in
     record {
       known = leb-true port 3 (passed .known);
+      inside = passed .inside;
       front = passed .front;
-      there = passed .there;
-      unused = ltb-true 1 (accountOf (turnId s) s .count) (passed .unused);
+      there = eqb-false (ownAccount port s .id) 0 (not-true (eqb (ownAccount port s .id) 0) (passed .there));
+      unused = ltb-true 1 (ownAccount port s .count) (passed .unused);
     }
 
--- The account whose turn it is has the id that its port waits for.
-pub turn-holder : (port : ℕ) (s : State) → TurnGood port s → accountOf (turnId s) s .id ≡ turnId s
-turn-holder port s g = placed-id (turnId s) (s .rooms) (there-parts (turnId s) (s .rooms) (g .there) .1)
-
-offered-outcome : (c : Call) (port password : ℕ) (next : Room) (s : State) → tickOf c ≡ 0 → TurnGood port s → NotBy c port
-    → next .id ≡ turnId s → (AccountGood (accountOf (turnId s) s) → AccountGood next)
-    → ((i : ℕ) → keepsAlgorithm i c ≡ true → next .algorithm ≡ accountOf (turnId s) s .algorithm)
+offered-outcome : (c : Call) (port password : ℕ) (next : Room) (s : State) → tickOf c ≡ 0 → TurnGood port s → NotBy c port → Outside c s port
+    → next .id ≡ ownAccount port s .id → (AccountGood (ownAccount port s) → AccountGood next)
+    → ((i : ℕ) → keepsAlgorithm i c ≡ true → next .algorithm ≡ ownAccount port s .algorithm)
     → Outcome c s (offered port password next s .state)
 unfolding offered
-offered-outcome c port password next s z g n i a k =
-    go (eqb (hash (accountOf (turnId s) s .algorithm) (bytesOf password)) (accountOf (turnId s) s .password))
+offered-outcome c port password next s z g n o i a k =
+    go (eqb (hash (ownAccount port s .algorithm) (bytesOf password)) (ownAccount port s .password))
   where
     go : (t : Bool) → Outcome c s (cond t (Steps.accepted port next s) (Steps.rejected port s) .state)
-    go true = Outcome.accepted z port next g n i a k
-    go false = Outcome.rejected z port g n
+    go true = Outcome.accepted z port next g n o i a k
+    go false = Outcome.rejected z port g n o
 
 -- What is done with a text: nothing where it is refused, else the password is offered.
-read-outcome : (c : Call) (port : ℕ) (text : List ℕ) (next : ℕ → Room) (s : State) → tickOf c ≡ 0 → TurnGood port s → NotBy c port
-    → ((password : ℕ) → next password .id ≡ turnId s)
-    → ((password : ℕ) → AccountGood (accountOf (turnId s) s) → AccountGood (next password))
-    → ((password i : ℕ) → keepsAlgorithm i c ≡ true → next password .algorithm ≡ accountOf (turnId s) s .algorithm)
+read-outcome : (c : Call) (port : ℕ) (text : List ℕ) (next : ℕ → Room) (s : State) → tickOf c ≡ 0 → TurnGood port s → NotBy c port → Outside c s port
+    → ((password : ℕ) → next password .id ≡ ownAccount port s .id)
+    → ((password : ℕ) → AccountGood (ownAccount port s) → AccountGood (next password))
+    → ((password i : ℕ) → keepsAlgorithm i c ≡ true → next password .algorithm ≡ ownAccount port s .algorithm)
     → Outcome c s (read s (readingOf text) (λ password. offered port password (next password) s) .state)
-read-outcome c port text next s z g n i a k = go (readingOf text)
+read-outcome c port text next s z g n o i a k = go (readingOf text)
   where
     go : (r : Reading) → Outcome c s (read s r (λ password. offered port password (next password) s) .state)
-    go (Reading.Password password) = offered-outcome c port password (next password) s z g n (i password) (a password) (k password)
+    go (Reading.Password password) =
+        offered-outcome c port password (next password) s z g n o (i password) (a password) (k password)
     go (Reading.Refused why) = Outcome.nothing z
 
 reply-outcome : (port : ℕ) (text : List ℕ) (s : State) → Outcome (Call.Reply port text) s (Steps.reply port text s .state)
@@ -191,10 +194,11 @@ reply-outcome port text s =
     checked-outcome Replied.Refused (Call.Reply port text) s (turnChecked port s) _ refl
     (λ e.
     let g = turn-good port s e in
-    read-outcome (Call.Reply port text) port text (lowered (accountOf (turnId s) s)) s refl g
-    (λ p i q. not-true (eqb port p) q) (λ password. turn-holder port s g) (λ password. lower g password) (λ password i e. refl))
+    read-outcome (Call.Reply port text) port text (lowered (ownAccount port s)) s refl g
+    (λ p i q. not-true (eqb port p) q) (λ i q. not-true (standsIn port (lineOf i s)) q)
+    (λ password. refl) (λ password. lower g password) (λ password i e. refl))
   where
-    lower : TurnGood port s → (password : ℕ) → AccountGood (accountOf (turnId s) s) → AccountGood (lowered (accountOf (turnId s) s) password)
+    lower : TurnGood port s → (password : ℕ) → AccountGood (ownAccount port s) → AccountGood (lowered (ownAccount port s) password)
     lower g password a =
         let unused = g .unused in
         record {
@@ -213,9 +217,9 @@ renew-outcome port number count seed new text s =
     (λ e.
     let passed = renew-passed port number count seed s e in
     let g = turn-good port s (passed .turn) in
-    let id = accountOf (turnId s) s .id in
+    let id = ownAccount port s .id in
     read-outcome (Call.Renew port number count seed new text) port text (λ password. newRoom id number count seed new) s refl g
-    (λ p i q. not-true (eqb port p) q) (λ password. turn-holder port s g)
+    (λ p i q. not-true (eqb port p) q) (λ i q. not-true (standsIn port (lineOf i s)) q) (λ password. refl)
     (λ password a. new-good id number count seed new (passed .within) (passed .good)) (λ password i e. absurd (false≢true e)))
 
 -- Every call, on every table.
@@ -227,4 +231,4 @@ outcome (Call.Leave port) s = leave-outcome port s
 outcome (Call.Challenge port room) s = Outcome.nothing refl
 outcome (Call.Reply port text) s = reply-outcome port text s
 outcome (Call.Renew port number count seed password text) s = renew-outcome port number count seed password text s
-outcome Call.Tick s = Outcome.ticked refl
+outcome Call.Tick s = Outcome.ticked refl (λ i. refl)

@@ -3,82 +3,63 @@ use Prim.Native.Nat.{ℕ, suc, _<_}
 use mathlib.Core.Path.{_≡_, refl, sym, ap, _∙_}
 use mathlib.Core.Bool.{Bool, true, false, cond, not, _&&_}
 use mathlib.Core.List.{List, [], _∷_}
-use borrow.Author.Tests.{eqb-true, eqb-false, eq-eqb, ne-eqb, ltb-true, lt-ltb, not-true}
+use borrow.Author.Tests.{eqb-true, eqb-false, eq-eqb, ne-eqb, ltb-true, not-true}
 use lib.Dec.{eqb}
-use lib.ListN.{length, getD, set, length-set}
+use lib.ListN.{length, getD, set}
 use lib.Seq.{getD-set-same}
 use Rattle.text.specs.Tests.{both}
-use Rattle.accounts.specs.Rooms.{Room, free, placeOf, holds}
+use Rattle.table.specs.Table.{Held, freeRoom, placeOf, holds}
 
 -- Another account stands where it stood, as it was, when the first room with the id k changes.
-pub other-stays : (j k : ℕ) (rooms : List Room) (room : Room) → (j ≡ k → ⊥) → (room .id ≡ j → ⊥)
+pub other-stays : (j k : ℕ) (rooms : List Held) (room : Held) → (j ≡ k → ⊥) → (room .account .id ≡ j → ⊥)
     → (placeOf j (set rooms (placeOf k rooms) room) ≡ placeOf j rooms)
-    × (getD (set rooms (placeOf k rooms) room) (placeOf j rooms) free ≡ getD rooms (placeOf j rooms) free)
+    × (getD (set rooms (placeOf k rooms) room) (placeOf j rooms) freeRoom ≡ getD rooms (placeOf j rooms) freeRoom)
 unfolding placeOf
 other-stays j k [] room d n = (refl, refl)
-other-stays j k (r ∷ rs) room d n = go (eqb (r .id) k) (eqb (r .id) j) refl refl (other-stays j k rs room d n)
+other-stays j k (r ∷ rs) room d n = go (eqb (r .account .id) k) (eqb (r .account .id) j) refl refl (other-stays j k rs room d n)
   where
-    go : (t u : Bool) → eqb (r .id) k ≡ t → eqb (r .id) j ≡ u
+    go : (t u : Bool) → eqb (r .account .id) k ≡ t → eqb (r .account .id) j ≡ u
         → (placeOf j (set rs (placeOf k rs) room) ≡ placeOf j rs)
-        × (getD (set rs (placeOf k rs) room) (placeOf j rs) free ≡ getD rs (placeOf j rs) free)
+        × (getD (set rs (placeOf k rs) room) (placeOf j rs) freeRoom ≡ getD rs (placeOf j rs) freeRoom)
         → (placeOf j (set (r ∷ rs) (cond t 0 (suc (placeOf k rs))) room) ≡ cond u 0 (suc (placeOf j rs)))
-        × (getD (set (r ∷ rs) (cond t 0 (suc (placeOf k rs))) room) (cond u 0 (suc (placeOf j rs))) free
-        ≡ getD (r ∷ rs) (cond u 0 (suc (placeOf j rs))) free)
-    go true true e f ih = absurd (d (sym (eqb-true (r .id) j f) ∙ eqb-true (r .id) k e))
-    go true false e f ih = (rw (ne-eqb (room .id) j n), refl)
+        × (getD (set (r ∷ rs) (cond t 0 (suc (placeOf k rs))) room) (cond u 0 (suc (placeOf j rs))) freeRoom
+        ≡ getD (r ∷ rs) (cond u 0 (suc (placeOf j rs))) freeRoom)
+    go true true e f ih = absurd (d (sym (eqb-true (r .account .id) j f) ∙ eqb-true (r .account .id) k e))
+    go true false e f ih = (rw (ne-eqb (room .account .id) j n), refl)
     go false true e f ih = (rw f, refl)
     go false false e f ih = (rw f (ap suc (ih .0)), ih .1)
 
 -- A room that keeps its id is still the first with it.
-pub same-place : (k : ℕ) (rooms : List Room) (room : Room) → room .id ≡ k
+pub same-place : (k : ℕ) (rooms : List Held) (room : Held) → room .account .id ≡ k
     → placeOf k (set rooms (placeOf k rooms) room) ≡ placeOf k rooms
 unfolding placeOf
 same-place k [] room n = refl
-same-place k (r ∷ rs) room n = go (eqb (r .id) k) refl (same-place k rs room n)
+same-place k (r ∷ rs) room n = go (eqb (r .account .id) k) refl (same-place k rs room n)
   where
-    go : (t : Bool) → eqb (r .id) k ≡ t
+    go : (t : Bool) → eqb (r .account .id) k ≡ t
         → placeOf k (set rs (placeOf k rs) room) ≡ placeOf k rs
         → placeOf k (set (r ∷ rs) (cond t 0 (suc (placeOf k rs))) room) ≡ cond t 0 (suc (placeOf k rs))
-    go true e ih = rw (eq-eqb (room .id) k n)
+    go true e ih = rw (eq-eqb (room .account .id) k n)
     go false e ih = rw e (ap suc ih)
 
 -- ---- an account that is there
 
-pub there-parts : (id : ℕ) (rooms : List Room) → (not (eqb id 0) && holds id rooms) ≡ true
+pub there-parts : (id : ℕ) (rooms : List Held) → (not (eqb id 0) && holds id rooms) ≡ true
     → (id ≡ 0 → ⊥) × (placeOf id rooms < length rooms)
 there-parts id rooms e =
     let halves = both (not (eqb id 0)) (holds id rooms) e in
     (eqb-false id 0 (not-true (eqb id 0) (halves .0)), ltb-true (placeOf id rooms) (length rooms) (halves .1))
 
-pub there-from : (id : ℕ) (rooms : List Room) → (id ≡ 0 → ⊥) → placeOf id rooms < length rooms
-    → (not (eqb id 0) && holds id rooms) ≡ true
-there-from id rooms n h = rw (ne-eqb id 0 n, lt-ltb (placeOf id rooms) (length rooms) h)
-
--- It is still there, and the same, when the room of another one changes.
-pub other-there : (j k : ℕ) (rooms : List Room) (room : Room) → (j ≡ k → ⊥) → (room .id ≡ j → ⊥)
-    → (not (eqb j 0) && holds j rooms) ≡ true → (not (eqb j 0) && holds j (set rooms (placeOf k rooms) room)) ≡ true
-other-there j k rooms room d n e =
-    let parts = there-parts j rooms e in
-    let stays = other-stays j k rooms room d n in
-    there-from j (set rooms (placeOf k rooms) room) (parts .0)
-    (rw (stays .0, length-set) (parts .1))
-
-pub same-there : (k : ℕ) (rooms : List Room) (room : Room) → room .id ≡ k
-    → (not (eqb k 0) && holds k rooms) ≡ true → (not (eqb k 0) && holds k (set rooms (placeOf k rooms) room)) ≡ true
-same-there k rooms room n e =
-    let parts = there-parts k rooms e in
-    there-from k (set rooms (placeOf k rooms) room) (parts .0)
-    (rw (same-place k rooms room n, length-set) (parts .1))
-
-pub other-same : (j k : ℕ) (rooms : List Room) (room : Room) → (j ≡ k → ⊥) → (room .id ≡ j → ⊥)
-    → getD (set rooms (placeOf k rooms) room) (placeOf j (set rooms (placeOf k rooms) room)) free ≡ getD rooms (placeOf j rooms) free
+-- It is the same when the room of another one changes.
+pub other-same : (j k : ℕ) (rooms : List Held) (room : Held) → (j ≡ k → ⊥) → (room .account .id ≡ j → ⊥)
+    → getD (set rooms (placeOf k rooms) room) (placeOf j (set rooms (placeOf k rooms) room)) freeRoom ≡ getD rooms (placeOf j rooms) freeRoom
 other-same j k rooms room d n =
     let stays = other-stays j k rooms room d n in
-    ap (λ (m : ℕ). getD (set rooms (placeOf k rooms) room) m free) (stays .0) ∙ stays .1
+    ap (λ (m : ℕ). getD (set rooms (placeOf k rooms) room) m freeRoom) (stays .0) ∙ stays .1
 
 -- The room that keeps its id holds what was put there.
-pub same-changed : (k : ℕ) (rooms : List Room) (room : Room) → room .id ≡ k → placeOf k rooms < length rooms
-    → getD (set rooms (placeOf k rooms) room) (placeOf k (set rooms (placeOf k rooms) room)) free ≡ room
+pub same-changed : (k : ℕ) (rooms : List Held) (room : Held) → room .account .id ≡ k → placeOf k rooms < length rooms
+    → getD (set rooms (placeOf k rooms) room) (placeOf k (set rooms (placeOf k rooms) room)) freeRoom ≡ room
 same-changed k rooms room n h =
-    ap (λ (m : ℕ). getD (set rooms (placeOf k rooms) room) m free) (same-place k rooms room n)
-    ∙ getD-set-same rooms (placeOf k rooms) room free h
+    ap (λ (m : ℕ). getD (set rooms (placeOf k rooms) room) m freeRoom) (same-place k rooms room n)
+    ∙ getD-set-same rooms (placeOf k rooms) room freeRoom h

@@ -1,26 +1,34 @@
-// The table on a line: accounts by rising id, ports, the line, the turn.
+// The table on a line: accounts by rising id, each with its line and turn, and the ports.
 ghost use Prim.Native.Nat.{_<_};
 use crate::printing::byte;
 use crate::printing::bytes;
 use crate::printing::good;
 use crate::printing::number;
 use crate::printing::password;
+use line::Lines;
 use password::algorithm::number_of;
 use table::Table;
 
-// A comma before each entry of a list but the first.
-fn comma(k: usize) {
+// What stands before each entry of a list but the first.
+fn between(k: usize, mark: u8) {
     if 0 < k {
-        byte(b',');
+        byte(mark);
     }
 }
 
 // Entry k of a list of pairs.
 fn pair(k: usize, a: u64, b: u64) {
-    comma(k);
+    between(k, b',');
     number(a);
     byte(b':');
     number(b);
+}
+
+// `-` for a list of none.
+fn dash(shown: usize) {
+    if shown == 0 {
+        byte(b'-');
+    }
 }
 
 // A seed: the first bytes of its room.
@@ -30,13 +38,56 @@ fn seed(kept: [u8; 16], len: usize) {
     }
 }
 
+// The line of the account in that room, front first. How many were shown.
+fn line_at(lines: Lines, at: usize) -> usize {
+    let places = lines.places;
+    let mut shown = 0;
+    let mut i = 0;
+    while i < 4 {
+        if lines.len <= i {
+            return shown;
+        }
+        let place = places[i];
+        i += 1;
+        if (place.room % 32) as usize == at {
+            between(shown, b'.');
+            number(place.port as u64);
+            shown += 1;
+        }
+    }
+    shown
+}
+
+// The turn of that line's front port; 0 where nobody waits.
+fn turn_at(lines: Lines, at: usize) -> u8 {
+    let places = lines.places;
+    let mut i = 0;
+    while i < 4 {
+        if lines.len <= i {
+            return 0;
+        }
+        let place = places[i];
+        i += 1;
+        if (place.room % 32) as usize == at {
+            return place.turn;
+        }
+    }
+    0
+}
+
+fn waiting(lines: Lines, at: usize) {
+    dash(line_at(lines, at));
+    byte(b':');
+    number(turn_at(lines, at) as u64);
+}
+
 // Entry k of the accounts, from a room.
 fn account(k: usize, table: Table, at: usize)
     requires { ⌜ at < 32 ⌝ }
 {
     let rooms = table.rooms;
     let account = rooms[at];
-    comma(k);
+    between(k, b',');
     number(account.id as u64);
     byte(b':');
     let algorithm = account.algorithm;
@@ -48,6 +99,8 @@ fn account(k: usize, table: Table, at: usize)
     byte(b':');
     let kept = account.seed;
     seed(kept, account.len);
+    byte(b':');
+    waiting(table.lines, at);
 }
 
 // The room of the account with the least id above `last`; 32 where there is none.
@@ -95,29 +148,6 @@ fn ports(table: Table) {
     }
 }
 
-// How many of those that wait were shown.
-fn line(table: Table) -> usize {
-    let line = table.line;
-    let places = line.places;
-    let mut i = 0;
-    while i < 4 {
-        if line.len <= i {
-            return i;
-        }
-        let place = places[i];
-        pair(i, place.port as u64, place.id as u64);
-        i += 1;
-    }
-    i
-}
-
-// `-` for a list of none.
-fn dash(shown: usize) {
-    if shown == 0 {
-        byte(b'-');
-    }
-}
-
 // The name of a part of the table.
 fn part(name: u8) {
     byte(b' ');
@@ -131,11 +161,6 @@ pub fn dump(table: Table) -> Table {
     dash(accounts(table));
     part(b'P');
     ports(table);
-    part(b'L');
-    dash(line(table));
-    part(b'T');
-    let waiting = table.line;
-    number(waiting.turn as u64);
     byte(b'\n');
     table
 }

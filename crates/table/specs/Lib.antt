@@ -3,4 +3,6 @@ pub mod Table
 pub mod TableChecks
 pub mod Steps
 pub mod StepLaws
+pub mod ViewLaws
 pub mod HeldLaws
+pub mod Examples

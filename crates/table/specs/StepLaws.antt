@@ -11,11 +11,21 @@ use Rattle.refusal.specs.Laws.{must-good, each-good}
 use Rattle.password.specs.Algorithm.{numbered, algorithmChecked}
 use Rattle.password.specs.PhraseAndSeed.{seedChecked}
 use Rattle.challenge.specs.Challenges.{challengeWrittenBy}
-use Rattle.line.specs.Line.{standsIn, joined, left, removed}
-use Rattle.accounts.specs.Rooms.{free, holds, placeOf}
-use Rattle.accounts.specs.Accounts.{newRoom, countWithin}
-use Rattle.table.specs.Table.{State, isThere, accountOf, portOf, hasTurn, turnId, withRoom, withLine}
-use Rattle.table.specs.TableChecks.{idGiven, idNew, roomLeft, accountThere, portKnown, notInLine, portOpen, notUsedUp, inLine, inFront, seedNew}
+use Rattle.accounts.specs.Accounts.{newRoom, countWithin, seedOther}
+use Rattle.table.specs.Table.{State, freeRoom, placeOf, holds, isThere, accountOf, portOf, waits, ownAccount, hasTurn, withRoom, withAccount}
+use Rattle.table.specs.TableChecks.{
+  idGiven,
+  idNew,
+  roomLeft,
+  accountThere,
+  accountHeld,
+  portKnown,
+  notInLine,
+  portOpen,
+  notUsedUp,
+  inLine,
+  inFront,
+}
 use Rattle.table.specs.Steps as steps
 use Rattle.table.specs.Steps.{enrolChecked, joinChecked, leaveChecked, turnChecked, renewChecked}
 
@@ -49,7 +59,7 @@ module _ (id number count : ℕ) (seed : List ℕ) (s : State) where
   enrol-refused password why e = rw e
 
   pub enrol-done : (password : List ℕ) → enrolChecked id number count seed s ≡ Checked.Good
-      → steps.enrol id number count seed password s ≡ steps.done (withRoom (placeOf 0 (s .rooms)) (newRoom id number count seed password) s)
+      → steps.enrol id number count seed password s ≡ steps.done (withAccount (placeOf 0 (s .rooms)) (newRoom id number count seed password) s)
   unfolding steps.enrol
   enrol-done password e = rw e
 
@@ -57,7 +67,7 @@ module _ (id number count : ℕ) (seed : List ℕ) (s : State) where
 
 module _ (id : ℕ) (s : State) where
   pub remove-done : isThere id s ≡ true
-      → steps.remove id s ≡ steps.done (withLine (removed id (s .line)) (withRoom (placeOf id (s .rooms)) free s))
+      → steps.remove id s ≡ steps.done (withRoom (placeOf id (s .rooms)) freeRoom s)
   unfolding steps.remove
   remove-done e = rw e
 
@@ -66,7 +76,7 @@ module _ (id : ℕ) (s : State) where
 pub record JoinPassed (port id : ℕ) (s : State) : Type 0 where
   pub known : leb port 3 ≡ true
   pub there : isThere id s ≡ true
-  pub out : not (standsIn port (s .line)) ≡ true
+  pub out : not (waits port s) ≡ true
   pub unshut : eqb (portOf port s .shut) 0 ≡ true
   pub unused : ltb 1 (accountOf id s .count) ≡ true
 
@@ -74,7 +84,7 @@ module _ (port id : ℕ) (s : State) where
   pub join-passed : joinChecked port id s ≡ Checked.Good → JoinPassed port id s
   unfolding joinChecked
   join-passed e =
-      let found = each-good (portKnown port ∷ accountThere id s ∷ notInLine port s ∷ portOpen port s ∷ notUsedUp id s ∷ []) e in
+      let found = each-good (portKnown port ∷ accountThere id s ∷ notInLine port s ∷ portOpen port s ∷ notUsedUp (accountOf id s) ∷ []) e in
       record {
         known = must-good _ _ (found .0);
         there = must-good _ _ (found .1 .0);
@@ -87,7 +97,7 @@ module _ (port id : ℕ) (s : State) where
   unfolding steps.join
   join-refused why e = rw e
 
-  pub join-done : joinChecked port id s ≡ Checked.Good → steps.join port id s ≡ steps.done (withLine (joined port id (s .line)) s)
+  pub join-done : joinChecked port id s ≡ Checked.Good → steps.join port id s ≡ steps.done (steps.joins port id s)
   unfolding steps.join
   join-done e = rw e
 
@@ -98,7 +108,7 @@ module _ (port : ℕ) (s : State) where
   unfolding steps.leave
   leave-refused why e = rw e
 
-  pub leave-done : leaveChecked port s ≡ Checked.Good → steps.leave port s ≡ steps.done (withLine (left port (s .line)) s)
+  pub leave-done : leaveChecked port s ≡ Checked.Good → steps.leave port s ≡ steps.done (steps.leaves port s)
   unfolding steps.leave
   leave-done e = rw e
 
@@ -106,23 +116,23 @@ module _ (port : ℕ) (s : State) where
 
 pub record TurnPassed (port : ℕ) (s : State) : Type 0 where
   pub known : leb port 3 ≡ true
-  pub inside : standsIn port (s .line) ≡ true
+  pub inside : waits port s ≡ true
   pub front : hasTurn port s ≡ true
-  pub there : isThere (turnId s) s ≡ true
-  pub unused : ltb 1 (accountOf (turnId s) s .count) ≡ true
+  pub there : not (eqb (ownAccount port s .id) 0) ≡ true
+  pub unused : ltb 1 (ownAccount port s .count) ≡ true
 
 pub record RenewPassed (port number count : ℕ) (seed : List ℕ) (s : State) : Type 0 where
   pub turn : turnChecked port s ≡ Checked.Good
   pub within : (leb 2 count && leb count 9999) ≡ true
   pub algorithm : algorithmChecked (numbered number) ≡ Checked.Good
   pub good : seedChecked seed ≡ Checked.Good
-  pub new : seedNew seed (turnId s) s ≡ Checked.Good
+  pub new : seedOther seed (ownAccount port s) ≡ Checked.Good
 
 module _ (port : ℕ) (s : State) where
   pub turn-passed : turnChecked port s ≡ Checked.Good → TurnPassed port s
   unfolding turnChecked
   turn-passed e =
-      let found = each-good (portKnown port ∷ inLine port s ∷ inFront port s ∷ accountThere (turnId s) s ∷ notUsedUp (turnId s) s ∷ []) e in
+      let found = each-good (portKnown port ∷ inLine port s ∷ inFront port s ∷ accountHeld (ownAccount port s) ∷ notUsedUp (ownAccount port s) ∷ []) e in
       record {
         known = must-good _ _ (found .0);
         inside = must-good _ _ (found .1 .0);
@@ -137,7 +147,7 @@ module _ (port : ℕ) (s : State) where
 
   pub challenge-done : (room : ℕ) → turnChecked port s ≡ Checked.Good
       → steps.challenge port room s
-      ≡ challengeWrittenBy (accountOf (turnId s) s .algorithm) (accountOf (turnId s) s .seed) (accountOf (turnId s) s .count - 1) room
+      ≡ challengeWrittenBy (ownAccount port s .algorithm) (ownAccount port s .seed) (ownAccount port s .count - 1) room
   unfolding steps.challenge
   challenge-done room e = rw e
 
@@ -146,7 +156,7 @@ module _ (port number count : ℕ) (seed : List ℕ) (s : State) where
   unfolding renewChecked
   renew-passed e =
       let found = each-good (turnChecked port s ∷ countWithin count ∷ algorithmChecked (numbered number) ∷ seedChecked seed
-      ∷ seedNew seed (turnId s) s ∷ []) e in
+      ∷ seedOther seed (ownAccount port s) ∷ []) e in
       record {
         turn = found .0;
         within = must-good _ _ (found .1 .0);

@@ -1,9 +1,8 @@
 // Where accounts stand in a table.
 ghost use mathlib.Core.Path.{_≡_};
 ghost use lib.Dec.{ltb};
-ghost use lib.ListN.{getD};
-ghost use Rattle.accounts.specs.Rooms.{roomOf, free, placeOf, holds};
-ghost use Rattle.table.specs.Table.{view, withRoom};
+ghost use Rattle.accounts.specs.Rooms.{roomOf};
+ghost use Rattle.table.specs.Table.{view, placeOf, holds, roomAt, withAccount};
 use crate::Table;
 use accounts::Account;
 use accounts::FREE;
@@ -26,7 +25,7 @@ pub fn place_of(table: Table, id: u16) -> usize
 
 // The account in that room; a free room past the last.
 pub fn account_at(table: Table, place: usize) -> Account
-    ensures { λ r. ⌜ roomOf r ≡ getD (view table .rooms) place free ⌝ }
+    ensures { λ r. ⌜ roomOf r ≡ roomAt place (view table) .account ⌝ }
 {
     if 31 < place {
         return FREE;
@@ -35,9 +34,9 @@ pub fn account_at(table: Table, place: usize) -> Account
     rooms[place]
 }
 
-// The table with that account in that room; as it is past the last.
+// The table with that account in that room, whose line stays; as it is past the last.
 pub fn put(mut table: Table, place: usize, account: Account) -> Table
-    ensures { λ r. ⌜ view r ≡ withRoom place (roomOf account) (view table) ⌝ }
+    ensures { λ r. ⌜ view r ≡ withAccount place (roomOf account) (view table) ⌝ }
 {
     if place < 32 {
         table.rooms[place] = account;

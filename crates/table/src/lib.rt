@@ -1,9 +1,9 @@
-// The login table of one controller: accounts, ports and the line of those that wait; and what its calls answer.
+// The login table of one controller: accounts, ports and the lines of those that wait; and what its calls answer.
 ghost use mathlib.Core.Path.{_≡_};
 ghost use Rattle.table.specs.Table as spec;
 use accounts::Account;
 use accounts::FREE;
-use line::Line;
+use line::Lines;
 use port::Port;
 use refusal::Checked;
 use refusal::Refusal;
@@ -14,7 +14,7 @@ pub mod held;
 pub struct Table {
     pub rooms: [Account; 32],
     pub ports: [Port; 4],
-    pub line: Line,
+    pub lines: Lines,
 }
 
 // The new count, or why there is none.
@@ -41,6 +41,6 @@ pub fn fresh() -> Table
     Table {
         rooms: [FREE; 32],
         ports: [Port { wrong: 0, shut: 0 }; 4],
-        line: line::fresh(),
+        lines: line::fresh(),
     }
 }

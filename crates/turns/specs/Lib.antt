@@ -1,5 +1,4 @@
 -- Only what private functions cite: the calls' promises are over `table`'s definitions.
-pub mod Inside
 pub mod TurnChecks
 pub mod TurnCheckLaws
 pub mod TurnPartLaws

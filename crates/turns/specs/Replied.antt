@@ -9,7 +9,6 @@ use Rattle.reply.specs.Reply.{readingOf}
 use Rattle.accounts.specs.Rooms.{Room}
 use Rattle.accounts.specs.Accounts.{newRoom, lowered, valuesChecked}
 use Rattle.table.specs.declared.Replied.{Replied}
-use Rattle.turns.specs.TurnChecks.{frontChecked}
 use Rattle.turns.specs.TurnPart.{Seen, Said, refused, offered}
 
 -- The answer to a text that could not be read.
@@ -22,19 +21,19 @@ abbrev pub read : Seen → Reading → (ℕ → Said) → Said
 read t (Reading.Password password) next = next password
 read t (Reading.Refused why) next = refused t why
 
-unfoldable pub replyRead : ℕ → List ℕ → Seen → Said
-replyRead port text t = read t (readingOf text) (λ password. offered port password (lowered (t .account) password) t)
+unfoldable pub replyRead : List ℕ → Seen → Said
+replyRead text t = read t (readingOf text) (λ password. offered password (lowered (t .account) password) t)
 
-unfoldable pub replied : ℕ → List ℕ → Seen → Said
-replied port text t = unless (refused t) (frontChecked port (t .line) (t .account)) (replyRead port text t)
+unfoldable pub replied : List ℕ → Seen → Said
+replied text t = unless (refused t) (t .checked) (replyRead text t)
 
-unfoldable pub renewRead : ℕ → List ℕ → Room → Seen → Said
-renewRead port text next t = read t (readingOf text) (λ password. offered port password next t)
+unfoldable pub renewRead : List ℕ → Room → Seen → Said
+renewRead text next t = read t (readingOf text) (λ password. offered password next t)
 
-abbrev pub renewChecked : ℕ → Checked → Seen → Checked
-renewChecked port values t = unless Checked.Refused (frontChecked port (t .line) (t .account)) values
+abbrev pub renewChecked : Checked → Seen → Checked
+renewChecked values t = unless Checked.Refused (t .checked) values
 
-unfoldable pub renewed : ℕ → ℕ → ℕ → List ℕ → List ℕ → List ℕ → Seen → Said
-renewed port number count seed new text t =
-    unless (refused t) (renewChecked port (valuesChecked number count seed (t .account)) t)
-    (renewRead port text (newRoom (t .account .id) number count seed new) t)
+unfoldable pub renewed : ℕ → ℕ → List ℕ → List ℕ → List ℕ → Seen → Said
+renewed number count seed new text t =
+    unless (refused t) (renewChecked (valuesChecked number count seed (t .account)) t)
+    (renewRead text (newRoom (t .account .id) number count seed new) t)

@@ -9,20 +9,16 @@ use Rattle.refusal.specs.Checks.{unless}
 use Rattle.reply.specs.Reply.{readingOf}
 use Rattle.accounts.specs.Accounts.{newRoom, lowered, valuesChecked}
 use Rattle.table.specs.declared.Replied.{Replied}
-use Rattle.table.specs.Table.{State, accountOf, turnId}
+use Rattle.table.specs.Table.{State, ownAccount}
 use Rattle.table.specs.Steps as steps
-use Rattle.table.specs.Steps.{After}
-use Rattle.turns.specs.TurnChecks.{frontChecked}
-use Rattle.turns.specs.TurnCheckLaws.{front-checked}
-use Rattle.turns.specs.TurnPart.{Seen, Said, seenBy, after, refused, offered}
+use Rattle.table.specs.Steps.{After, turnChecked}
+use Rattle.turns.specs.TurnPart.{Seen, Said, seenBy, after, stays, refused, offered}
 use Rattle.turns.specs.TurnPartLaws.{after-refused, after-offered}
 use Rattle.turns.specs.Replied.{unread, read, replyRead, replied, renewRead, renewChecked, renewed}
 
 -- A text that could not be read.
-pub read-refused : (t : Seen) (r : Reading) (why : Refusal) (next : ℕ → Said) → r ≡ Reading.Refused why
-    → record { answer = unread r; turn = t } ≡ read t r next
-read-refused t r why next e =
-    ap (λ (x : Reading). record { answer = unread x; turn = t }) e ∙ sym (ap (λ (x : Reading). read t x next) e)
+pub read-refused : (t : Seen) (r : Reading) (why : Refusal) (next : ℕ → Said) → r ≡ Reading.Refused why → stays (unread r) t ≡ read t r next
+read-refused t r why next e = ap (λ (x : Reading). stays (unread x) t) e ∙ sym (ap (λ (x : Reading). read t x next) e)
 
 module _ (port : ℕ) (s : State) where
   -- A check, and what is done behind it.
@@ -37,24 +33,21 @@ module _ (port : ℕ) (s : State) where
   after-read (Reading.Password password) o a e = e password
   after-read (Reading.Refused why) o a e = after-refused port s why
 
-  pub after-reply : (text : List ℕ) → after port s (replied port text (seenBy port s)) ≡ steps.reply port text s
+  pub after-reply : (text : List ℕ) → after port s (replied text (seenBy port s)) ≡ steps.reply port text s
   unfolding replied replyRead steps.reply steps.replyRead
   after-reply text =
-      let account = accountOf (turnId s) s in
-      let said = after-read (readingOf text) (λ password. offered port password (lowered account password) (seenBy port s))
-      (λ password. steps.offered port password (lowered account password) s) (λ password. after-offered port s password (lowered account password)) in
-      after-unless (frontChecked port (s .line) account) (replyRead port text (seenBy port s)) (steps.replyRead port text s) said
-      ∙ ap (λ (k : Checked). unless (steps.replyRefused s) k (steps.replyRead port text s)) (front-checked port s)
+      let account = ownAccount port s in
+      after-unless (turnChecked port s) (replyRead text (seenBy port s)) (steps.replyRead port text s)
+      (after-read (readingOf text) (λ password. offered password (lowered account password) (seenBy port s))
+      (λ password. steps.offered port password (lowered account password) s) (λ password. after-offered port s password (lowered account password)))
 
-  pub after-renew : (number count : ℕ) (seed new text : List ℕ) → after port s (renewed port number count seed new text (seenBy port s))
-      ≡ steps.renew port number count seed new text s
+  pub after-renew : (number count : ℕ) (seed new text : List ℕ)
+      → after port s (renewed number count seed new text (seenBy port s)) ≡ steps.renew port number count seed new text s
   unfolding renewed renewRead steps.renew steps.renewRead steps.renewChecked valuesChecked
   after-renew number count seed new text =
-      let account = accountOf (turnId s) s in
+      let account = ownAccount port s in
       let next = newRoom (account .id) number count seed new in
-      let said = after-read (readingOf text) (λ password. offered port password next (seenBy port s))
-      (λ password. steps.offered port password next s) (λ password. after-offered port s password next) in
-      after-unless (renewChecked port (valuesChecked number count seed account) (seenBy port s))
-      (renewRead port text next (seenBy port s)) (steps.renewRead port number count seed new text s) said
-      ∙ ap (λ (k : Checked). unless (steps.replyRefused s) (unless Checked.Refused k (valuesChecked number count seed account))
-      (steps.renewRead port number count seed new text s)) (front-checked port s)
+      after-unless (renewChecked (valuesChecked number count seed account) (seenBy port s))
+      (renewRead text next (seenBy port s)) (steps.renewRead port number count seed new text s)
+      (after-read (readingOf text) (λ password. offered password next (seenBy port s))
+      (λ password. steps.offered port password next s) (λ password. after-offered port s password next))

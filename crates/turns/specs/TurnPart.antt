@@ -1,71 +1,68 @@
--- What a call of a turn looks at and may change, and what becomes of it: TurnPartLaws ties it to the written steps, on the whole table.
+-- What a call of a turn looks at, and what becomes of it: TurnPartLaws ties it to the written steps, on the whole table.
 use Prim.Native.Nat.{ℕ}
-use mathlib.Core.Bool.{cond}
+use mathlib.Core.Bool.{Bool, true, false, cond}
 use lib.Dec.{eqb}
 use Rattle.refusal.specs.declared.Refusal.{Refusal}
+use Rattle.refusal.specs.declared.Checked.{Checked}
 use Rattle.password.specs.Password.{hash, bytesOf}
-use Rattle.line.specs.Line.{Waiting, waiting, left}
 use Rattle.port.specs.declared.Port.{Port}
 use Rattle.port.specs.Port.{wrongly, wrongAnswer, rightly}
-use Rattle.accounts.specs.Rooms.{Room, roomOf, placeOf}
+use Rattle.accounts.specs.Rooms.{Room, roomOf}
 use Rattle.table.specs.declared.Replied.{Replied}
-use Rattle.table.specs.Table.{State, accountOf, portOf, turnId, withRoom, withPort, withLine}
-use Rattle.table.specs.Steps.{After}
+use Rattle.table.specs.Table.{State, portOf, standsAt, ownAccount, withAccount, withPort}
+use Rattle.table.specs.Steps.{After, turnChecked, leaves}
 use Rattle.turns.specs.declared.offering.TurnPart.{TurnPart}
 use Rattle.turns.specs.declared.offering.Outcome.{Outcome}
 
--- The account in turn and its room, a port's own record, the line.
+-- The room in whose line the port stands, the account in that room, the port's own record, and what the turn's checks say.
 pub record Seen : Type 0 where
   pub place : ℕ
   pub account : Room
   pub own : Port
-  pub line : Waiting
+  pub checked : Checked
 
 -- What a turn's bytes mean.
 abbrev pub seen : TurnPart → Seen
-seen t = record { place = t .place; account = roomOf (t .account); own = t .own; line = waiting (t .line) }
-
--- An answer, and the turn after it.
-pub record Said : Type 0 where
-  pub answer : Replied
-  pub turn : Seen
-
-abbrev pub outcome : Outcome → Said
-outcome o = record { answer = o .answer; turn = seen (o .turn) }
+seen t = record { place = t .place; account = roomOf (t .account); own = t .own; checked = t .checked }
 
 -- What a port's call sees of a table.
 abbrev pub seenBy : ℕ → State → Seen
-seenBy port s = record {
-  place = placeOf (turnId s) (s .rooms);
-  account = accountOf (turnId s) s;
-  own = portOf port s;
-  line = s .line;
-}
+seenBy port s = record { place = standsAt port (s .rooms); account = ownAccount port s; own = portOf port s; checked = turnChecked port s }
 
--- The table with the turn put back.
-abbrev pub putBack : ℕ → State → Seen → State
-putBack port s t = withLine (t .line) (withPort port (t .own) (withRoom (t .place) (t .account) s))
+-- An answer, with what becomes of the account in that room and of the port's own record, and whether the port leaves its line.
+pub record Said : Type 0 where
+  pub place : ℕ
+  pub account : Room
+  pub own : Port
+  pub leaves : Bool
+  pub answer : Replied
+
+abbrev pub outcome : Outcome → Said
+outcome o = record { place = o .place; account = roomOf (o .account); own = o .own; leaves = o .leaves; answer = o .answer }
+
+-- The table with what became of the account and of the port.
+abbrev pub putBack : ℕ → State → Said → State
+putBack port s o =
+    let changed = withPort port (o .own) (withAccount (o .place) (o .account) s) in
+    cond (o .leaves) (leaves port changed) changed
 
 abbrev pub after : ℕ → State → Said → After Replied
-after port s o = record { answer = o .answer; state = putBack port s (o .turn) }
+after port s o = record { answer = o .answer; state = putBack port s o }
 
--- A refusal leaves the turn as it is.
+-- An answer that changes nothing, as a refusal.
+abbrev pub stays : Replied → Seen → Said
+stays answer t = record { place = t .place; account = t .account; own = t .own; leaves = false; answer = answer }
+
 abbrev pub refused : Seen → Refusal → Said
-refused t why = record { answer = Replied.Refused why; turn = t }
+refused t why = stays (Replied.Refused why) t
 
 -- What is offered is right, or it isn't.
-abbrev pub accepted : ℕ → Room → Seen → Said
-accepted port next t = record {
-  answer = Replied.Accepted (next .count);
-  turn = record { place = t .place; account = next; own = rightly (t .own); line = left port (t .line) };
-}
+abbrev pub accepted : Room → Seen → Said
+accepted next t = record { place = t .place; account = next; own = rightly (t .own); leaves = true; answer = Replied.Accepted (next .count) }
 
-abbrev pub rejected : ℕ → Seen → Said
-rejected port t = record {
-  answer = Replied.Refused (wrongAnswer (t .own));
-  turn = record { place = t .place; account = t .account; own = wrongly (t .own); line = left port (t .line) };
-}
+abbrev pub rejected : Seen → Said
+rejected t = record { place = t .place; account = t .account; own = wrongly (t .own); leaves = true; answer = Replied.Refused (wrongAnswer (t .own)) }
 
-unfoldable pub offered : ℕ → ℕ → Room → Seen → Said
-offered port password next t =
-    cond (eqb (hash (t .account .algorithm) (bytesOf password)) (t .account .password)) (accepted port next t) (rejected port t)
+unfoldable pub offered : ℕ → Room → Seen → Said
+offered password next t =
+    cond (eqb (hash (t .account .algorithm) (bytesOf password)) (t .account .password)) (accepted next t) (rejected t)

@@ -1,38 +1,42 @@
--- A turn that is put back is what is written of the table: nothing where nothing was done, and what is offered.
+-- What is put back is what is written of the table: nothing where nothing was done, and what is offered.
 use Prim.Native.Nat.{ℕ}
-use mathlib.Core.Path.{_≡_, refl}
+use mathlib.Core.Path.{_≡_, refl, ap}
 use mathlib.Core.Bool.{Bool, true, false, cond}
 use lib.Dec.{eqb}
+use lib.Seq.{set-getD}
 use Rattle.refusal.specs.declared.Refusal.{Refusal}
 use Rattle.password.specs.Password.{hash, bytesOf}
-use Rattle.accounts.specs.Rooms.{Room, free}
-use Rattle.table.specs.HeldLaws.{set-same}
+use Rattle.port.specs.Port.{wrongly, wrongAnswer}
+use Rattle.accounts.specs.Rooms.{Room}
 use Rattle.table.specs.declared.Replied.{Replied}
-use Rattle.table.specs.Table.{State, accountOf, turnId, freshPort}
+use Rattle.table.specs.Table.{State, freeRoom, freshPort, standsAt, ownAccount, portOf, withAccount, withPort}
 use Rattle.table.specs.Steps as steps
-use Rattle.turns.specs.TurnPart.{seenBy, putBack, after, refused, accepted, rejected, offered}
+use Rattle.turns.specs.TurnPart.{seenBy, after, refused, accepted, rejected, offered}
 
 module _ (port : ℕ) (s : State) where
-  -- The rooms with the account in turn where it was found.
-  rooms-same : putBack port s (seenBy port s) .rooms ≡ s .rooms
-  rooms-same = set-same (s .rooms) (seenBy port s .place) free
+  -- The account where it was found.
+  account-same : withAccount (standsAt port (s .rooms)) (ownAccount port s) s ≡ s
+  account-same = λ i. record { rooms = set-getD (s .rooms) (standsAt port (s .rooms)) freeRoom i; ports = s .ports }
 
   -- A refusal changes no table.
   pub after-refused : (why : Refusal) → after port s (refused (seenBy port s) why) ≡ steps.replyRefused s why
   after-refused why =
-      λ i. record { answer = Replied.Refused why; state = record { rooms = rooms-same i; ports = set-same (s .ports) port freshPort i; line = s .line } }
+      λ i. record { answer = Replied.Refused why; state = record { rooms = account-same i .rooms; ports = set-getD (s .ports) port freshPort i } }
 
-  after-rejected : after port s (rejected port (seenBy port s)) ≡ steps.rejected port s
+  after-rejected : after port s (rejected (seenBy port s)) ≡ steps.rejected port s
   after-rejected =
-      let a = steps.rejected port s in
-      λ i. record { answer = a .answer; state = record { rooms = rooms-same i; ports = a .state .ports; line = a .state .line } }
+      ap (λ (s′ : State). record {
+        answer = Replied.Refused (wrongAnswer (portOf port s));
+        state = steps.leaves port (withPort port (wrongly (portOf port s)) s′);
+      }) account-same
 
   -- What is offered.
-  pub after-offered : (password : ℕ) (next : Room) → after port s (offered port password next (seenBy port s)) ≡ steps.offered port password next s
+  pub after-offered : (password : ℕ) (next : Room)
+      → after port s (offered password next (seenBy port s)) ≡ steps.offered port password next s
   unfolding offered steps.offered
-  after-offered password next = by (eqb (hash (accountOf (turnId s) s .algorithm) (bytesOf password)) (accountOf (turnId s) s .password))
+  after-offered password next = by (eqb (hash (ownAccount port s .algorithm) (bytesOf password)) (ownAccount port s .password))
     where
-      by : (b : Bool) → after port s (cond b (accepted port next (seenBy port s)) (rejected port (seenBy port s)))
+      by : (b : Bool) → after port s (cond b (accepted next (seenBy port s)) (rejected (seenBy port s)))
           ≡ cond b (steps.accepted port next s) (steps.rejected port s)
       by true = refl
       by false = after-rejected

@@ -5,71 +5,79 @@ ghost use Rattle.turns.specs.TurnPart as spec;
 ghost use Rattle.turns.specs.TurnPart.{seen, outcome};
 use accounts::Account;
 use generator::chain::step;
-use line::Line;
 use port::Port;
 use port::after_right;
 use port::after_wrong;
 use port::wrong_answer;
+use refusal::Checked;
 use table::Replied;
 
-// The part of a table that a call in a turn looks at and may change: the account in turn and its room, the port's own record, the line.
-// It is handed over in place of the table, which is copied less often so.
+// The part of a table that a call in a turn looks at: the room in whose line the port stands, the account in that room, the port's own record, and what
+// the turn's checks say. It is handed over in place of the table, which is copied less often so.
 pub struct TurnPart {
     pub place: usize,
     pub account: Account,
     pub own: Port,
-    pub line: Line,
+    pub checked: Checked,
 }
 
-// An answer with the turn after it.
+// An answer, with what becomes of the account in that room and of the port's own record, and whether the port leaves its line.
 pub struct Outcome {
-    pub turn: TurnPart,
+    pub place: usize,
+    pub account: Account,
+    pub own: Port,
+    pub leaves: bool,
     pub answer: Replied,
 }
 
-fn accepted(turn: TurnPart, port: u8, next: Account) -> Outcome
-    ensures { λ r. ⌜ outcome r ≡ spec.accepted port (roomOf next) (seen turn) ⌝ }
+// An answer that changes nothing.
+pub fn stays(turn: TurnPart, answer: Replied) -> Outcome
+    ensures { λ r. ⌜ outcome r ≡ spec.stays answer (seen turn) ⌝ }
 {
-    let own = after_right(turn.own);
-    let waiting = turn.line;
-    let line = line::leave(waiting, port);
+    let account = turn.account;
+    let own = turn.own;
     Outcome {
-        turn: TurnPart {
-            place: turn.place,
-            account: next,
-            own,
-            line,
-        },
+        place: turn.place,
+        account,
+        own,
+        leaves: false,
+        answer,
+    }
+}
+
+fn accepted(turn: TurnPart, next: Account) -> Outcome
+    ensures { λ r. ⌜ outcome r ≡ spec.accepted (roomOf next) (seen turn) ⌝ }
+{
+    Outcome {
+        place: turn.place,
+        account: next,
+        own: after_right(turn.own),
+        leaves: true,
         answer: Replied::Accepted(next.count),
     }
 }
 
-fn rejected(turn: TurnPart, port: u8) -> Outcome
-    ensures { λ r. ⌜ outcome r ≡ spec.rejected port (seen turn) ⌝ }
+fn rejected(turn: TurnPart) -> Outcome
+    ensures { λ r. ⌜ outcome r ≡ spec.rejected (seen turn) ⌝ }
 {
-    let account = turn.account;
-    let own = after_wrong(turn.own);
-    let waiting = turn.line;
-    let line = line::leave(waiting, port);
+    let present = turn.account;
     Outcome {
-        turn: TurnPart {
-            place: turn.place,
-            account,
-            own,
-            line,
-        },
+        place: turn.place,
+        account: present,
+        own: after_wrong(turn.own),
+        leaves: true,
         answer: Replied::Refused(wrong_answer(turn.own)),
     }
 }
 
 // Where the hash, by the account's present algorithm, is the stored password, the account becomes `next`.
-pub fn offer(turn: TurnPart, port: u8, password: u64, next: Account) -> Outcome
-    ensures { λ r. ⌜ outcome r ≡ spec.offered port password (roomOf next) (seen turn) ⌝ }
+pub fn offer(turn: TurnPart, password: u64, next: Account) -> Outcome
+    ensures { λ r. ⌜ outcome r ≡ spec.offered password (roomOf next) (seen turn) ⌝ }
 {
     let account = turn.account;
     let algorithm = account.algorithm;
     if step(algorithm, password) == account.password {
-        return accepted(turn, port, next);
+        return accepted(turn, next);
     }
-    rejected(turn, port)
+    rejected(turn)
 }

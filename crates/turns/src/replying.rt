@@ -6,7 +6,7 @@ ghost use Rattle.turns.specs.Replied as spec;
 use crate::offering::Outcome;
 use crate::offering::TurnPart;
 use crate::offering::offer;
-use crate::turn_checks::check_turn;
+use crate::offering::stays;
 use accounts::Account;
 use accounts::lowered::lower;
 use accounts::values::propose;
@@ -27,55 +27,43 @@ fn refusal_of(reading: Reading) -> Replied
 }
 
 // The reply of the port that has the turn.
-fn reply_read(turn: TurnPart, port: u8, text: &[u8]) -> Outcome
-    ensures { λ r. ⌜ outcome r ≡ spec.replyRead port (now (text .entry)) (seen turn) ⌝ }
+fn reply_read(turn: TurnPart, text: &[u8]) -> Outcome
+    ensures { λ r. ⌜ outcome r ≡ spec.replyRead (now (text .entry)) (seen turn) ⌝ }
 {
     let reading = read(text);
     let Reading::Password(password) = reading else {
-        return Outcome {
-            turn,
-            answer: refusal_of(reading),
-        };
+        return stays(turn, refusal_of(reading));
     };
     let account = turn.account;
-    offer(turn, port, password, lower(account, password))
+    offer(turn, password, lower(account, password))
 }
 
-pub fn replied(turn: TurnPart, port: u8, text: &[u8]) -> Outcome
-    ensures { λ r. ⌜ outcome r ≡ spec.replied port (now (text .entry)) (seen turn) ⌝ }
+pub fn replied(turn: TurnPart, text: &[u8]) -> Outcome
+    ensures { λ r. ⌜ outcome r ≡ spec.replied (now (text .entry)) (seen turn) ⌝ }
 {
-    let line = turn.line;
-    let account = turn.account;
-    if let Checked::Refused(why) = check_turn(line, account, port) {
-        return Outcome {
-            turn,
-            answer: Replied::Refused(why),
-        };
+    let checked = turn.checked;
+    if let Checked::Refused(why) = checked {
+        return stays(turn, Replied::Refused(why));
     }
-    reply_read(turn, port, text)
+    reply_read(turn, text)
 }
 
 // The renewal of the account whose port has the turn.
-fn renew_read(turn: TurnPart, port: u8, text: &[u8], next: Account) -> Outcome
-    ensures { λ r. ⌜ outcome r ≡ spec.renewRead port (now (text .entry)) (roomOf next) (seen turn) ⌝ }
+fn renew_read(turn: TurnPart, text: &[u8], next: Account) -> Outcome
+    ensures { λ r. ⌜ outcome r ≡ spec.renewRead (now (text .entry)) (roomOf next) (seen turn) ⌝ }
 {
     let reading = read(text);
     let Reading::Password(password) = reading else {
-        return Outcome {
-            turn,
-            answer: refusal_of(reading),
-        };
+        return stays(turn, refusal_of(reading));
     };
-    offer(turn, port, password, next)
+    offer(turn, password, next)
 }
 
 // What the turn's checks say, and behind them those of the new values.
-fn check_renew(turn: TurnPart, port: u8, values: Checked) -> Checked
-    ensures { λ r. ⌜ r ≡ spec.renewChecked port values (seen turn) ⌝ }
+fn check_renew(turn: TurnPart, values: Checked) -> Checked
+    ensures { λ r. ⌜ r ≡ spec.renewChecked values (seen turn) ⌝ }
 {
-    let line = turn.line;
-    let account = turn.account;
-    let checked = check_turn(line, account, port);
+    let checked = turn.checked;
     if let Checked::Refused(_) = checked {
         return checked;
     }
@@ -84,24 +72,20 @@ fn check_renew(turn: TurnPart, port: u8, values: Checked) -> Checked
 
 pub fn renewed(
     turn: TurnPart,
-    port: u8,
     algorithm: u32,
     count: u16,
     seed: &[u8],
     password: &[u8; 8],
     text: &[u8],
 ) -> Outcome
-    ensures { λ r. ⌜ outcome r ≡ spec.renewed port algorithm count (now (seed .entry)) (now (password .entry)) (now (text .entry)) (seen turn) ⌝ }
+    ensures { λ r. ⌜ outcome r ≡ spec.renewed algorithm count (now (seed .entry)) (now (password .entry)) (now (text .entry)) (seen turn) ⌝ }
 {
     let present = turn.account;
     let next = propose(present, present.id, algorithm, count, seed, password);
     let values = next.checked;
-    if let Checked::Refused(why) = check_renew(turn, port, values) {
-        return Outcome {
-            turn,
-            answer: Replied::Refused(why),
-        };
+    if let Checked::Refused(why) = check_renew(turn, values) {
+        return stays(turn, Replied::Refused(why));
     }
     let account = next.account;
-    renew_read(turn, port, text, account)
+    renew_read(turn, text, account)
 }

@@ -7,7 +7,7 @@ use Rattle.line.specs.Laws.{unmapped}
 use Rattle.line.proofs.count.Statement.{statement}
 use Rattle.line.proofs.count.Tie as tie
 
-four : (c : tie.Start) → length (c .args .line .places) ≡ 4
+four : (c : tie.Start) → length (c .args .lines .places) ≡ 4
 four c = search (needs, unmapped)
 
 pub count-spec : {M : Type 1} → statement M

@@ -4,7 +4,7 @@ use borrow.Author.Needs.{needs}
 use native.Mathlib.Omega.{arith}
 use lib.ListN.{length}
 use Rattle.line.specs.Laws.{unmapped}
-use Rattle.accounts.specs.Laws.{set-past}
+use lib.Seq.{set-out}
 use Rattle.turns.proofs.put_own.Statement.{statement}
 use Rattle.turns.proofs.put_own.Tie as tie
 
@@ -12,7 +12,7 @@ four : (c : tie.Start) → length (c .args .t1) ≡ 4
 four c = search (needs, unmapped)
 
 returns : tie.Need-returns
-returns c = sym (set-past (c .before .args .t1) (c .before .args .port) (c .before .args .own) (omega (arith, four (c .before))))
+returns c = sym (set-out (c .before .args .t1) (c .before .args .port) (c .before .args .own) (omega (arith, four (c .before))))
 
 pub put-own-spec : {M : Type 1} → statement M
 put-own-spec = tie.close (tie.spec returns (λ c. search needs) (λ c. search needs) (λ c. search needs))

@@ -1,36 +1,22 @@
 -- `reply` meets its promise: what the turn becomes, put back, is the written step.
-use Prim.Native.Nat.{ℕ}
 use mathlib.Core.Path.{ap, _∙_}
 use borrow.Author.Needs.{needs}
-use Rattle.accounts.specs.Rooms.{placeOf}
 use Rattle.table.specs.Table.{view}
 use Rattle.turns.specs.TurnPart.{after}
 use Rattle.turns.specs.Replied as spec
 use Rattle.turns.specs.RepliedLaws.{after-reply}
-use Rattle.turns.specs.Inside.{seenAt}
 use Rattle.turns.proofs.reply.Statement.{statement}
 use Rattle.turns.proofs.reply.Tie as tie
 
 returns : tie.Need-returns
 returns c =
     let done = c .before in
-    let taken = done .before in
-    let looked = taken .before in
-    let a = looked .before .before .before .before .args in
+    let turned = done .before in
+    let a = turned .before .before .args in
     let s = view (a .table) in
-    let place = looked .place-of .ensures .0 ∙ ap (λ (id : ℕ). placeOf id (s .rooms)) (looked .before .turn-id .ensures) in
-    let turn = taken .turn-of .ensures ∙ ap (λ (n : ℕ). seenAt (a .port) n s) place in
     c .put-back .ensures
-    ∙ ap (after (a .port) s) (done .replied .ensures ∙ ap (spec.replied (a .port) (a .text .now)) turn)
+    ∙ ap (after (a .port) s) (done .replied .ensures ∙ ap (spec.replied (a .text .now)) (turned .turn-of .ensures))
     ∙ after-reply (a .port) s (a .text .now)
 
 pub reply-spec : {M : Type 1} → statement M
-reply-spec =
-    tie.close
-    (tie.spec
-    (λ c κs. search needs)
-    (λ c κs. search needs)
-    (λ c κs. search needs)
-    (λ c κs. search needs)
-    (λ c κs. search needs)
-    returns)
+reply-spec = tie.close (tie.spec (λ c κs. search needs) (λ c κs. search needs) (λ c κs. search needs) returns)

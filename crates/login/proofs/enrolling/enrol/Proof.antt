@@ -10,10 +10,10 @@ use Rattle.refusal.specs.Checks.{unless, inOrder}
 use Rattle.refusal.specs.Laws.{first-good, each-good, in-parts}
 use Rattle.password.specs.Algorithm.{numbered, algorithmChecked}
 use Rattle.password.specs.PhraseAndSeed.{seedChecked}
-use Rattle.accounts.specs.Rooms.{free, holds}
+use Rattle.accounts.specs.Rooms.{free}
 use Rattle.accounts.specs.Accounts.{Proposal, newRoom, countWithin, valuesChecked}
 use Rattle.accounts.specs.Laws.{values-enrolled}
-use Rattle.table.specs.Table.{State, view, withRoom}
+use Rattle.table.specs.Table.{State, view, holds, withAccount}
 use Rattle.table.specs.TableChecks.{idGiven, idNew, roomLeft}
 use Rattle.table.specs.Steps.{enrolChecked}
 use Rattle.table.specs.StepLaws.{enrol-refused, enrol-done}
@@ -71,7 +71,7 @@ returns-2 c =
     let each = each-good (enrolFound (a .id) values (asked .before .before .before .place-of .result) (asked .before .before .place-of2 .result))
     (sym (found asked) ∙ good) in
     let room : _ ≡ new = ap (λ (p : Proposal). p .room) (asked .before .propose .ensures) ∙ sym (first-good (λ _. free) values new (each .1 .0)) in
-    let after = c .put .ensures ∙ (λ i. withRoom (asked .before .before .place-of2 .ensures .0 i) (room i) s) in
+    let after = c .put .ensures ∙ (λ i. withAccount (asked .before .before .place-of2 .ensures .0 i) (room i) s) in
     (λ i. record { answer = good i; state = after i })
     ∙ sym (enrol-done (a .id) (a .algorithm) (a .count) (a .seed .now) s (a .password .now) (sym (checked asked) ∙ good))
 

@@ -1,19 +1,30 @@
--- `remove` meets its promise: refused where no such account is there, else its room is free and its ports have left.
-use Prim.Native.Nat.{ℕ}
-use mathlib.Core.Path.{_≡_, sym, ap, _∙_}
+-- `remove` meets its promise: refused where no such account is there, else its room is free and its line is empty.
+use Prim.Native.Nat.{ℕ, zero, suc}
+use mathlib.Core.Path.{_≡_, refl, sym, ap, _∙_}
 use mathlib.Core.Bool.{Bool, not, _&&_}
+use mathlib.Core.List.{List, [], _∷_}
 use borrow.Author.Needs.{needs}
 use lib.Dec.{eqb}
+use lib.ListN.{getD, set}
 use Rattle.refusal.specs.declared.Refusal.{Refusal}
 use Rattle.refusal.specs.declared.Checked.{Checked}
 use Rattle.refusal.specs.Checks.{unless, must}
-use Rattle.accounts.specs.Rooms.{free, placeOf}
-use Rattle.line.specs.Line.{removed}
-use Rattle.table.specs.Table.{view, withRoom, withLine}
+use Rattle.line.specs.Line.{Waiting, empty}
+use Rattle.accounts.specs.Rooms.{free}
+use Rattle.table.specs.Table.{State, Held, freeRoom, view, placeOf, withRoom, withLine}
 use Rattle.table.specs.TableChecks.{accountThere}
+use Rattle.table.specs.ViewLaws.{line-set}
 use Rattle.table.specs.Steps.{After, refused, done, remove}
 use Rattle.login.proofs.enrolling.remove.Statement.{statement}
 use Rattle.login.proofs.enrolling.remove.Tie as tie
+
+-- No account in a room, and then nobody in its line: a free room.
+freed : (l : List Held) (i : ℕ) (w : Waiting)
+    → let gone = set l i (record { account = free; line = w }) in
+    set gone i (record { account = getD gone i freeRoom .account; line = empty }) ≡ set l i freeRoom
+freed [] i w = refl
+freed (held ∷ l) zero w = refl
+freed (held ∷ l) (suc i) w = ap (λ (t : List Held). held ∷ t) (freed l i w)
 
 abbrev from : tie.After-check-remove → tie.Start
 from c = c .before .before
@@ -28,7 +39,7 @@ checked c =
 abbrev by-check : tie.Start → Checked → After Checked
 by-check c check =
     let s = view (c .args .table) in
-    unless (refused s) check (done (withLine (removed (c .args .id) (s .line)) (withRoom (placeOf (c .args .id) (s .rooms)) free s)))
+    unless (refused s) check (done (withRoom (placeOf (c .args .id) (s .rooms)) freeRoom s))
 
 returns : tie.Need-returns
 unfolding remove
@@ -45,8 +56,12 @@ returns-2 c =
     let told = housed .before in
     let asked = told .before .before in
     let s = view (from asked .args .table) in
-    let after = housed .put .ensures ∙ ap (λ (n : ℕ). withRoom n free s) (asked .before .place-of .ensures .0) in
-    (λ i. record { answer = told .enum-told2 .given .1 i; state = record { rooms = after i .rooms; ports = after i .ports; line = c .remove .ensures i } })
+    let place = asked .before .place-of .result in
+    let rooms = line-set (housed .put .result) (c .remove .result) place empty (c .remove .ensures)
+    ∙ ap (λ (s′ : State). withLine place empty s′ .rooms) (housed .put .ensures)
+    ∙ freed (s .rooms) place (getD (s .rooms) place freeRoom .line)
+    ∙ ap (λ (n : ℕ). set (s .rooms) n freeRoom) (asked .before .place-of .ensures .0) in
+    (λ i. record { answer = told .enum-told2 .given .1 i; state = record { rooms = rooms i; ports = housed .put .ensures i .ports } })
     ∙ sym (ap (by-check (from asked)) (sym (checked asked) ∙ told .enum-told2 .given .1))
 
 pub remove-spec : {M : Type 1} → statement M

@@ -1,29 +1,96 @@
--- `join` meets its promise: refused as checked, or with the port at the back.
-use mathlib.Core.Path.{sym, ap, ap₂, _∙_}
+-- `join` meets its promise: refused as checked, or with the port at the back of the account's line.
+use Prim.Native.Nat.{ℕ}
+use mathlib.Core.Path.{_≡_, refl, sym, ap, _∙_}
+use mathlib.Core.Bool.{Bool, true, false, cond, not, _&&_}
+use mathlib.Core.List.{List}
 use borrow.Author.Needs.{needs}
+use borrow.Author.Tests.{ltb-false}
+use native.Mathlib.Omega.{arith}
+use lib.Dec.{eqb, leb, ltb}
+use lib.ListN.{length}
+use lib.Seq.{set-out}
 use Rattle.refusal.specs.declared.Checked.{Checked}
-use Rattle.line.specs.Line.{Waiting}
-use Rattle.table.specs.Table.{view, withLine}
+use Rattle.refusal.specs.Checks.{inOrder}
+use Rattle.line.specs.declared.Lines.{Lines}
+use Rattle.line.specs.Line.{Waiting, waiting, waitingIn, into, joined, joinedIn}
+use Rattle.line.specs.Laws.{unmapped}
+use Rattle.accounts.specs.Rooms.{Room}
+use Rattle.table.specs.declared.Table.{Table}
+use Rattle.table.specs.Table.{State, Held, view, heldFrom, roomAt, accountOf, portOf, inLines, waits, withLine}
+use Rattle.table.specs.ViewLaws.{rooms-32, line-at, line-set, all-in-line}
+use Rattle.table.specs.HeldLaws.{account-there}
+use Rattle.table.specs.Steps.{joinChecked, joins}
 use Rattle.table.specs.StepLaws.{join-refused, join-done}
+use Rattle.login.specs.Inside.{joinChecks, joinFound}
 use Rattle.login.proofs.joining.join.Statement.{statement}
 use Rattle.login.proofs.joining.join.Tie as tie
 
+-- The table with the lines that a port joined, or that it didn't since four wait or since there is no such room.
+module _ (t : Table) (all : length (t .rooms) ≡ 32) (lines : Lines) (port room : ℕ) where
+  abbrev with-rooms : List Held → State
+  with-rooms rooms = record { rooms = rooms; ports = t .ports }
+
+  abbrev back : State
+  back = withLine room (joined port (roomAt room (view t) .line)) (view t)
+
+  by-tests : (few inside : Bool) → ltb room 32 ≡ inside
+      → waiting lines ≡ cond (few && inside) (into room (joined port (waiting (t .lines) room)) (waiting (t .lines))) (waiting (t .lines))
+      → with-rooms (heldFrom 0 (t .rooms) (waiting lines)) ≡ cond few back (view t)
+  by-tests false inside h e = ap (λ (f : ℕ → Waiting). with-rooms (heldFrom 0 (t .rooms) f)) e
+  by-tests true false h e =
+      ap with-rooms
+      (ap (heldFrom 0 (t .rooms)) e ∙ sym (set-out (view t .rooms) room _ (omega (arith, ltb-false room 32 h, rooms-32 t all))))
+  by-tests true true h e =
+      ap with-rooms
+      (line-set t lines room (joined port (waiting (t .lines) room)) e
+      ∙ ap (λ (w : Waiting). withLine room (joined port w) (view t) .rooms) (sym (line-at t all room)))
+
+  joined-in : waiting lines ≡ joinedIn port room (length (waitingIn (t .lines))) (waiting (t .lines))
+      → with-rooms (heldFrom 0 (t .rooms) (waiting lines)) ≡ cond (ltb (length (inLines (view t .rooms))) 4) back (view t)
+  joined-in e =
+      by-tests (ltb (length (waitingIn (t .lines))) 4) (ltb room 32) refl e
+      ∙ ap (λ (n : ℕ). cond (ltb n 4) back (view t)) (sym (all-in-line t all))
+
+all : (c : tie.Start) → length (c .args .table .rooms) ≡ 32
+all c = search (needs, unmapped)
+
+abbrev from : tie.After-check-join → tie.Start
+from c = c .before .before .before
+
+-- What was checked, of the account that was found.
+checked : (c : tie.After-check-join) → c .check-join .result ≡ joinChecked (from c .args .port) (from c .args .id) (view (from c .args .table))
+unfolding joinChecked
+checked c =
+    let a = from c .args in
+    let s = view (a .table) in
+    let account = c .before .account-at .ensures ∙ ap (λ (n : ℕ). roomAt n s .account) (c .before .before .place-of .ensures .0) in
+    c .check-join .ensures
+    ∙ ap (λ (r : Room). inOrder (joinFound (a .port) r s)) account
+    ∙ ap (λ (there : Bool). inOrder (joinChecks (leb (a .port) 3) there (not (waits (a .port) s)) (eqb (portOf (a .port) s .shut) 0)
+    (ltb 1 (accountOf (a .id) s .count)))) (account-there (a .id) (s .rooms))
+
 returns : tie.Need-returns
 returns c =
-    let checked = c .before .before in
-    let s = view (checked .before .args .table) in
+    let asked = c .before .before in
+    let s = view (from asked .args .table) in
     ap (λ (k : Checked). record { answer = k; state = s }) (c .enum-told .given .1)
-    ∙ sym (join-refused _ _ s _ (sym (checked .check-join .ensures) ∙ c .enum-told .given .1))
+    ∙ sym (join-refused _ _ s _ (sym (checked asked) ∙ c .enum-told .given .1))
 
 returns-2 : tie.Need-returns-2
+unfolding joins
 returns-2 c =
     let told = c .before .before in
-    let checked = told .before .before in
-    let s = view (checked .before .args .table) in
-    ap₂ (λ (k : Checked) (w : Waiting). record { answer = k; state = withLine w s }) (told .enum-told2 .given .1) (c .join .ensures)
-    ∙ sym (join-done _ _ s (sym (checked .check-join .ensures) ∙ told .enum-told2 .given .1))
+    let asked = told .before .before in
+    let a = from asked .args in
+    let s = view (a .table) in
+    let place = asked .before .before .place-of in
+    let state = joined-in (a .table) (all (from asked)) (c .join .result) (a .port) (place .result) (c .join .ensures)
+    ∙ ap (λ (n : ℕ). cond (ltb (length (inLines (s .rooms))) 4) (withLine n (joined (a .port) (roomAt n s .line)) s) s) (place .ensures .0) in
+    (λ i. record { answer = told .enum-told2 .given .1 i; state = state i })
+    ∙ sym (join-done _ _ s (sym (checked asked) ∙ told .enum-told2 .given .1))
 
 pub join-spec : {M : Type 1} → statement M
 join-spec =
     tie.close
-    (tie.spec (λ c κs. search needs) (λ c. search needs) returns (λ c. search needs) (λ c κs. search needs) returns-2)
+    (tie.spec (λ c κs. search needs) (λ c κs. search needs) (λ c κs. search needs) (λ c. search needs) returns
+    (λ c. search needs) (λ c κs. search needs) returns-2)

@@ -1,9 +1,10 @@
 -- `leave` meets its promise: refused as checked, or with the port gone.
-use mathlib.Core.Path.{sym, ap, ap₂, _∙_}
+use mathlib.Core.Path.{sym, ap, _∙_}
 use borrow.Author.Needs.{needs}
 use Rattle.refusal.specs.declared.Checked.{Checked}
-use Rattle.line.specs.Line.{Waiting}
-use Rattle.table.specs.Table.{view, withLine}
+use Rattle.line.specs.Line.{left}
+use Rattle.table.specs.Table.{view}
+use Rattle.table.specs.ViewLaws.{lines-changed}
 use Rattle.table.specs.StepLaws.{leave-refused, leave-done}
 use Rattle.login.proofs.leaving.leave.Statement.{statement}
 use Rattle.login.proofs.leaving.leave.Tie as tie
@@ -19,9 +20,10 @@ returns-2 : tie.Need-returns-2
 returns-2 c =
     let told = c .before .before in
     let checked = told .before .before in
-    let s = view (checked .before .args .table) in
-    ap₂ (λ (k : Checked) (w : Waiting). record { answer = k; state = withLine w s }) (told .enum-told2 .given .1) (c .leave .ensures)
-    ∙ sym (leave-done _ s (sym (checked .check-leave .ensures) ∙ told .enum-told2 .given .1))
+    let a = checked .before .args in
+    let rooms = lines-changed (a .table) (c .leave .result) (left (a .port)) (c .leave .ensures) in
+    (λ i. record { answer = told .enum-told2 .given .1 i; state = record { rooms = rooms i; ports = a .table .ports } })
+    ∙ sym (leave-done _ (view (a .table)) (sym (checked .check-leave .ensures) ∙ told .enum-told2 .given .1))
 
 pub leave-spec : {M : Type 1} → statement M
 leave-spec =

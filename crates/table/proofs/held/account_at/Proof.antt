@@ -1,21 +1,26 @@
 -- `account_at` meets its promise: what stands in the room, or a free one past the last.
-use mathlib.Core.Path.{_≡_, sym}
+use mathlib.Core.Path.{_≡_, sym, ap}
 use borrow.Author.Needs.{needs}
 use native.Mathlib.Omega.{arith}
-use lib.ListN.{length}
+use lib.ListN.{length, List·getD-eq-default}
+use Rattle.line.specs.Line.{waiting}
 use Rattle.line.specs.Laws.{unmapped}
-use Rattle.table.proofs.held.Found.{none, room-at}
+use Rattle.table.specs.Table.{Held, freeRoom, view}
+use Rattle.table.specs.ViewLaws.{rooms-32, held-account}
 use Rattle.table.proofs.held.account_at.Statement.{statement}
 use Rattle.table.proofs.held.account_at.Tie as tie
 
-rooms-32 : (c : tie.Start) → length (c .args .table .rooms) ≡ 32
-rooms-32 c = search (needs, unmapped)
+all : (c : tie.Start) → length (c .args .table .rooms) ≡ 32
+all c = search (needs, unmapped)
 
 returns : tie.Need-returns
-returns c = none (c .before .args .table .rooms) (c .before .args .place) (rooms-32 (c .before)) (c .if1 .taken)
+returns c =
+    let a = c .before .args in
+    ap (λ (held : Held). held .account)
+    (sym (List·getD-eq-default (view (a .table) .rooms) freeRoom {n = a .place} (omega (arith, rooms-32 (a .table) (all (c .before)), c .if1 .taken))))
 
 returns-2 : tie.Need-returns-2
-returns-2 c = let a = c .before .before .before .args in sym (room-at (a .table .rooms) (a .place))
+returns-2 c = let a = c .before .before .before .args in sym (held-account (waiting (a .table .lines)) 0 (a .table .rooms) (a .place))
 
 pub account-at-spec : {M : Type 1} → statement M
-account-at-spec = tie.close (tie.spec returns (λ c. omega arith) (λ c. omega (arith, rooms-32 (c .before .before))) returns-2)
+account-at-spec = tie.close (tie.spec returns (λ c. omega arith) (λ c. omega (arith, all (c .before .before))) returns-2)

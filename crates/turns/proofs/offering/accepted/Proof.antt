@@ -1,4 +1,5 @@
--- `accepted` meets its promise: the account, the port's record with its run cleared, and the line.
+-- `accepted` meets its promise: the account, and the port's record with its run cleared.
+use mathlib.Core.Bool.{true}
 use borrow.Author.Needs.{needs}
 use Rattle.accounts.specs.Rooms.{roomOf}
 use Rattle.table.specs.declared.Replied.{Replied}
@@ -7,12 +8,14 @@ use Rattle.turns.proofs.offering.accepted.Tie as tie
 
 returns : tie.Need-returns
 returns c =
-    let cleared = c .before .before in
-    let a = cleared .before .args in
+    let a = c .before .args in
     λ i. record {
+      place = a .turn .place;
+      account = roomOf (a .next);
+      own = c .after-right .ensures i;
+      leaves = true;
       answer = Replied.Accepted (a .next .count);
-      turn = record { place = a .turn .place; account = roomOf (a .next); own = cleared .after-right .ensures i; line = c .leave .ensures i };
     }
 
 pub accepted-spec : {M : Type 1} → statement M
-accepted-spec = tie.close (tie.spec (λ c κs. search needs) (λ c κs. search needs) returns)
+accepted-spec = tie.close (tie.spec (λ c κs. search needs) returns)

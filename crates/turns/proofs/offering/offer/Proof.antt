@@ -14,13 +14,13 @@ from c = c .before .before
 
 -- What is done, by the test of the hash.
 by-test : (c : tie.After-step) (right : Bool) → eqb (c .step .result) (from c .args .turn .account .password) ≡ right
-    → cond right (accepted (from c .args .port) (roomOf (from c .args .next)) (seen (from c .args .turn)))
-    (rejected (from c .args .port) (seen (from c .args .turn)))
-    ≡ offered (from c .args .port) (from c .args .password) (roomOf (from c .args .next)) (seen (from c .args .turn))
+    → cond right (accepted (roomOf (from c .args .next)) (seen (from c .args .turn)))
+    (rejected (seen (from c .args .turn)))
+    ≡ offered (from c .args .password) (roomOf (from c .args .next)) (seen (from c .args .turn))
 unfolding offered
 by-test c right e =
     let a = from c .args in
-    ap (λ (b : Bool). cond b (accepted (a .port) (roomOf (a .next)) (seen (a .turn))) (rejected (a .port) (seen (a .turn))))
+    ap (λ (b : Bool). cond b (accepted (roomOf (a .next)) (seen (a .turn))) (rejected (seen (a .turn))))
     (sym e ∙ ap (λ (n : _). eqb n (a .turn .account .password)) (c .step .ensures))
 
 pub offer-spec : {M : Type 1} → statement M

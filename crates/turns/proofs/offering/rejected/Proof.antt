@@ -1,4 +1,5 @@
--- `rejected` meets its promise: the answer, the port's record after a wrong reply, and the line.
+-- `rejected` meets its promise: the answer, and the port's record after a wrong reply.
+use mathlib.Core.Bool.{true}
 use borrow.Author.Needs.{needs}
 use Rattle.accounts.specs.Rooms.{roomOf}
 use Rattle.table.specs.declared.Replied.{Replied}
@@ -7,13 +8,15 @@ use Rattle.turns.proofs.offering.rejected.Tie as tie
 
 returns : tie.Need-returns
 returns c =
-    let gone = c .before in
-    let counted = gone .before .before in
-    let a = counted .before .before .args in
+    let counted = c .before in
+    let turn = counted .before .before .args .turn in
     λ i. record {
+      place = turn .place;
+      account = roomOf (turn .account);
+      own = counted .after-wrong .ensures i;
+      leaves = true;
       answer = Replied.Refused (c .wrong-answer .ensures i);
-      turn = record { place = a .turn .place; account = roomOf (a .turn .account); own = counted .after-wrong .ensures i; line = gone .leave .ensures i };
     }
 
 pub rejected-spec : {M : Type 1} → statement M
-rejected-spec = tie.close (tie.spec (λ c κs. search needs) (λ c κs. search needs) (λ c κs. search needs) returns)
+rejected-spec = tie.close (tie.spec (λ c κs. search needs) (λ c κs. search needs) returns)

@@ -6,24 +6,26 @@ use Rattle.refusal.specs.declared.Reading.{Reading}
 use Rattle.reply.specs.Reply.{readingOf}
 use Rattle.accounts.specs.Rooms.{Room, roomOf}
 use Rattle.table.specs.declared.Replied.{Replied}
-use Rattle.turns.specs.TurnPart.{Seen, Said, seen, offered}
+use Rattle.turns.specs.TurnPart.{Seen, Said, seen, stays, offered}
 use Rattle.turns.specs.Replied.{read, renewRead}
 use Rattle.turns.specs.RepliedLaws.{read-refused}
 use Rattle.turns.proofs.replying.renew_read.Statement.{statement}
 use Rattle.turns.proofs.replying.renew_read.Tie as tie
 
-abbrev next : ℕ → Room → Seen → ℕ → Said
-next port room t password = offered port password room t
+abbrev next : Room → Seen → ℕ → Said
+next room t password = offered password room t
 
 returns : tie.Need-returns
 unfolding renewRead
 returns c =
-    let said = c .before .before .before in
+    let refused = c .before in
+    let said = refused .before .before .before in
     let a = said .before .before .args in
     let t = seen (a .turn) in
-    ap (λ (x : Replied). record { answer = x; turn = t }) (c .refusal-of .ensures)
-    ∙ read-refused t (said .read .result) _ (next (a .port) (roomOf (a .next)) t) (c .before .enum-told .given .1)
-    ∙ ap (λ (r : Reading). read t r (next (a .port) (roomOf (a .next)) t)) (said .read .ensures)
+    c .stays .ensures
+    ∙ ap (λ (x : Replied). stays x t) (refused .refusal-of .ensures)
+    ∙ read-refused t (said .read .result) _ (next (roomOf (a .next)) t) (refused .before .enum-told .given .1)
+    ∙ ap (λ (r : Reading). read t r (next (roomOf (a .next)) t)) (said .read .ensures)
 
 returns-2 : tie.Need-returns-2
 unfolding renewRead
@@ -34,7 +36,7 @@ returns-2 c =
     let t = seen (a .turn) in
     let right : readingOf (a .text .now) ≡ Reading.Password (known .before .reading .given .0 .0) =
     sym (said .read .ensures) ∙ known .before .reading .given .1 in
-    c .offer .ensures ∙ sym (ap (λ (r : Reading). read t r (next (a .port) (roomOf (a .next)) t)) right)
+    c .offer .ensures ∙ sym (ap (λ (r : Reading). read t r (next (roomOf (a .next)) t)) right)
 
 pub renew-read-spec : {M : Type 1} → statement M
 renew-read-spec =
@@ -43,6 +45,7 @@ renew-read-spec =
     (λ c κs. search needs)
     (λ c. search needs)
     (λ c. search needs)
+    (λ c κs. search needs)
     (λ c κs. search needs)
     returns
     (λ c κs. search needs)

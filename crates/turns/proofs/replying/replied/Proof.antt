@@ -1,5 +1,5 @@
 -- `replied` meets its promise: refused as the turn is, or what the text says is offered.
-use mathlib.Core.Path.{sym, _∙_}
+use mathlib.Core.Path.{_∙_}
 use borrow.Author.Needs.{needs}
 use Rattle.refusal.specs.Laws.{first-refused, first-good}
 use Rattle.turns.specs.TurnPart.{seen, refused}
@@ -10,21 +10,19 @@ use Rattle.turns.proofs.replying.replied.Tie as tie
 returns : tie.Need-returns
 unfolding spec.replied
 returns c =
-    let checked = c .before .before .before in
-    let a = checked .before .before .before .before .args in
+    let known = c .before .before in
+    let a = known .before .before .before .args in
     let t = seen (a .turn) in
-    first-refused (refused t) _ _ (spec.replyRead (a .port) (a .text .now) t) (sym (checked .check-turn .ensures) ∙ c .before .why .given .1)
+    c .stays .ensures ∙ first-refused (refused t) _ _ (spec.replyRead (a .text .now) t) (known .checked .given .1)
 
 returns-2 : tie.Need-returns-2
 unfolding spec.replied
 returns-2 c =
     let told = c .before in
-    let checked = told .before .before in
-    let a = checked .before .before .before .before .args in
+    let a = told .before .before .before .args in
     let t = seen (a .turn) in
-    c .reply-read .ensures
-    ∙ first-good (refused t) _ (spec.replyRead (a .port) (a .text .now) t) (sym (checked .check-turn .ensures) ∙ told .enum-told .given .1)
+    c .reply-read .ensures ∙ first-good (refused t) _ (spec.replyRead (a .text .now) t) (told .enum-told .given .1)
 
 pub replied-spec : {M : Type 1} → statement M
 replied-spec =
-    tie.close (tie.spec (λ c κs. search needs) (λ c. search needs) returns (λ c. search needs) (λ c κs. search needs) returns-2)
+    tie.close (tie.spec (λ c. search needs) (λ c κs. search needs) returns (λ c. search needs) (λ c κs. search needs) returns-2)

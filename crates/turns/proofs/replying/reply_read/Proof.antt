@@ -7,24 +7,26 @@ use Rattle.reply.specs.Reply.{readingOf}
 use Rattle.accounts.specs.Rooms.{Room}
 use Rattle.accounts.specs.Accounts.{lowered}
 use Rattle.table.specs.declared.Replied.{Replied}
-use Rattle.turns.specs.TurnPart.{Seen, Said, seen, offered}
+use Rattle.turns.specs.TurnPart.{Seen, Said, seen, stays, offered}
 use Rattle.turns.specs.Replied.{read, replyRead}
 use Rattle.turns.specs.RepliedLaws.{read-refused}
 use Rattle.turns.proofs.replying.reply_read.Statement.{statement}
 use Rattle.turns.proofs.replying.reply_read.Tie as tie
 
-abbrev next : ℕ → Seen → ℕ → Said
-next port t password = offered port password (lowered (t .account) password) t
+abbrev next : Seen → ℕ → Said
+next t password = offered password (lowered (t .account) password) t
 
 returns : tie.Need-returns
 unfolding replyRead
 returns c =
-    let said = c .before .before .before in
+    let refused = c .before in
+    let said = refused .before .before .before in
     let a = said .before .before .args in
     let t = seen (a .turn) in
-    ap (λ (x : Replied). record { answer = x; turn = t }) (c .refusal-of .ensures)
-    ∙ read-refused t (said .read .result) _ (next (a .port) t) (c .before .enum-told .given .1)
-    ∙ ap (λ (r : Reading). read t r (next (a .port) t)) (said .read .ensures)
+    c .stays .ensures
+    ∙ ap (λ (x : Replied). stays x t) (refused .refusal-of .ensures)
+    ∙ read-refused t (said .read .result) _ (next t) (refused .before .enum-told .given .1)
+    ∙ ap (λ (r : Reading). read t r (next t)) (said .read .ensures)
 
 returns-2 : tie.Need-returns-2
 unfolding replyRead
@@ -36,8 +38,8 @@ returns-2 c =
     let password = known .before .reading .given .0 .0 in
     let right : readingOf (a .text .now) ≡ Reading.Password password = sym (said .read .ensures) ∙ known .before .reading .given .1 in
     c .offer .ensures
-    ∙ ap (λ (r : Room). offered (a .port) password r t) (c .before .lower .ensures)
-    ∙ sym (ap (λ (r : Reading). read t r (next (a .port) t)) right)
+    ∙ ap (λ (r : Room). offered password r t) (c .before .lower .ensures)
+    ∙ sym (ap (λ (r : Reading). read t r (next t)) right)
 
 pub reply-read-spec : {M : Type 1} → statement M
 reply-read-spec =
@@ -46,6 +48,7 @@ reply-read-spec =
     (λ c κs. search needs)
     (λ c. search needs)
     (λ c. search needs)
+    (λ c κs. search needs)
     (λ c κs. search needs)
     returns
     (λ c κs. search needs)

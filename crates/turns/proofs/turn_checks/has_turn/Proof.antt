@@ -13,4 +13,4 @@ has-turn-spec =
     (λ c. search needs)
     (λ c. search needs)
     (λ c. ap (isFront _) (sym (c .enum-told .given .1) ∙ c .before .before .front-of .ensures))
-    (λ c. let place = c .before .before in ap (isFront _) (sym (place .place .given .1) ∙ place .before .before .front-of .ensures)))
+    (λ c. let known = c .before in ap (isFront _) (sym (known .other .given .1) ∙ known .before .before .front-of .ensures)))
