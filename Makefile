@@ -38,7 +38,7 @@ soak:
 # Ratios to the strongest C and to Heimdal's library, in one run; sizes.
 bench:
 	$(call needs,rt gcc python3)
-	@host/prove meter panel && python3 bench/bench.py
+	@host/prove meter panel painted && python3 bench/bench.py
 
 # Programs of others beside our answers, on inputs where they fail and on some where one agrees: all cases, or CASE=NAME.
 compare:

@@ -5,8 +5,8 @@ Its rounds time one thing after the other, each round in another order, so a
 ratio is taken within each round; the tables have the median time and the
 median ratio. After that come the calls of the login table, which the program
 `meter` repeats, and the sizes. A bound that isn't met is marked NOT MET, and
-the status is 0 all the same. With an argument it takes that archive and builds
-none.
+the status is 0 all the same. With an argument it takes that archive for the
+functions that C calls.
 """
 import collections
 import pathlib
@@ -201,7 +201,7 @@ def main(arguments):
     try:
         library = pathlib.Path(arguments[0]).resolve() if arguments else harness.archive()
         (times if harness.NATIVE else results)(library)
-        sizes.table(library)
+        sizes.table(library, harness.archive("painted"))
     except harness.Failed as failure:
         print(f"bench: FAILED: {failure}")
         return 1

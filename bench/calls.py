@@ -1,6 +1,7 @@
 """What the login table's calls take: the program `meter` repeats one of them, on 0, 1 and 32 accounts."""
 import collections
 import ctypes
+import re
 import resource
 import statistics
 import subprocess
@@ -19,8 +20,10 @@ ACCOUNTS = {"0": "0 accounts", "1": "1 account", "3": "32 accounts"}
 Row = collections.namedtuple("Row", "title left")
 # Each call by its letter, a capital one for accounts with SHA-1. Port 0 is in front of three others, all for one account; Join finds the three; in the
 # rows of four lines each port is in front of its own, and for Leave has been for a tick, so that the turns of the others show that they go on. A port in
-# line is never shut, so Tick has another row with a line. With an account all are accepted but Enrol at 32 (53). What is left is: ports in line (of a
-# challenge its first letter, o), the turns of the first of them and of the fourth, port 0's wrong run, port 3's shut ticks.
+# line is never shut, so Tick has another row with a line. Renew has one for an account with its first seed, and one for an account with eight, all as
+# long as the new one and like it up to the last of 16 characters, so that none is passed over. With an account all are accepted but Enrol at 32 (53).
+# What is left is: ports in line (of a challenge its first letter, o), the turns of the first of them and of the fourth, port 0's wrong run, port 3's shut
+# ticks (of a renewal how long the seed is that the account had before).
 CALLS = {
     "e": Row("Enrol", "0 0 0 0 0"),
     "r": Row("Remove, four ports leave", "0 0 0 0 0"),
@@ -36,7 +39,8 @@ CALLS = {
     "w": Row("Reply, in words", "3 60 0 0 0"),
     "H": Row("Reply, SHA-1, in hex", "3 60 0 0 0"),
     "W": Row("Reply, SHA-1, in words", "3 60 0 0 0"),
-    "n": Row("Renew", "3 60 0 0 0"),
+    "n": Row("Renew, the first time", "3 60 0 0 10"),
+    "o": Row("Renew, eight seeds remembered", "3 60 0 0 16"),
 }
 # without an account nobody is in line
 NO_LINE = "0 0 0 0 0"
@@ -46,7 +50,7 @@ WITH_LINES = {"t": "13", "u": "13", "f": "3", "m": "3"}
 MD5, SHA1 = "s", "S"
 REPLIES = {"h": (MD5, 5, 3), "w": (MD5, 5, 3), "H": (SHA1, 5, None), "W": (SHA1, 5, None)}
 # those that hash: every other call is held to one hash of MD5 and the copying
-HASHING = [*REPLIES, "n"]
+HASHING = [*REPLIES, "n", "o"]
 # the loop without a call, in which the table is only copied, with what that has
 LOOP, FOUND = "x", "4 60 60 0 0"
 
@@ -117,7 +121,7 @@ def measured():
 
 class Account(ctypes.Structure):
     _fields_ = [("id", ctypes.c_uint16), ("algorithm", ctypes.c_uint8), ("seed", ctypes.c_uint8 * 16), ("len", ctypes.c_size_t),
-                ("count", ctypes.c_uint16), ("password", ctypes.c_uint64)]
+                ("count", ctypes.c_uint16), ("older_count", ctypes.c_uint8), ("password", ctypes.c_uint64)]
 
 
 class Port(ctypes.Structure):
@@ -145,6 +149,18 @@ def table_bytes():
     return size
 
 
+def older_bytes():
+    """The bytes for the older seeds of all accounts, which a controller keeps beside its table: by the head of Renew, which is lent them."""
+    head = re.search(r"^pub fn renew\(.*?older: &mut \[u8; (\d+)\]", (harness.ROOT / "crates" / "turns" / "src" / "lib.rt").read_text(), re.M | re.S)
+    return int(head[1])
+
+
+def kept_bytes():
+    """What a controller keeps, in words."""
+    of_table, of_older = table_bytes(), older_bytes()
+    return f"a Table has {of_table:,} bytes, and the older seeds, which are lent to Renew, have {of_older:,}: {of_table + of_older:,} in all"
+
+
 def call_row(call, calls, limit):
     """A row of the table; a call without a hash that is over the limit on some table is marked."""
     cells = [f"{calls[call, accounts]:14.1f}" if (call, accounts) in calls else f"{'':14}" for accounts in ACCOUNTS]
@@ -164,7 +180,7 @@ def table():
     print("\n".join(call_row(call, calls, limit) for call in CALLS))
     print("Without an account every call but Enrol and Tick is refused.")
     print(f"One hash takes {md5:.1f} by MD5 and {sha1:.1f} by SHA-1, the loop without a call, which copies the table, {copied:.1f}; "
-          f"a Table has {table_bytes():,} bytes.")
+          f"{kept_bytes()}.")
     print(f"A call without a hash is to take one hash by MD5 and the copying at most, {limit:.1f}; one that is over it is marked.")
     for call, (hash_of, most, aim) in REPLIES.items():
         hashes = calls[call, "3"] / found[hash_of, "0"]

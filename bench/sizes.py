@@ -1,5 +1,8 @@
-"""What each exported function takes of a panel: code, read-only data, stack."""
+"""What each exported function takes of a panel: code, read-only data, stack. And the stack that Reply and Renew take."""
+import ctypes
+
 import bounds
+import calls
 import harness
 
 # what is linked together in a panel that only reads, or only writes, replies
@@ -10,6 +13,8 @@ GROUPS = {
 # R-3: what lift_md5 is to take at most, as GNU ld lays it out: the 64 constants and little else, and 0.75 of the 3,699 and 608
 # bytes before the request
 MD5_DATA, MD5_ALL = 288, 3230
+# Reply and Renew, which C can't call: their callers in crate `painted`, each of which has a table
+TURNS = {"Reply": "painted_reply", "Renew": "painted_renew"}
 # where a linker puts code, what is only read, and what is written
 KINDS = {"code": [".text"], "read-only": [".rodata"], "variables": [".data", ".bss"]}
 
@@ -36,19 +41,22 @@ def linked(library, names):
                                        ["-O2", "-Wl,--gc-sections", *kept]))
 
 
-def depths(library, flags):
-    """Each function's bytes from the top of the stack, as stack.c prints them."""
+def depths(library, painted, flags):
+    """Each function's bytes from the top of the stack, as stack.c prints them; and how many answers were wrong."""
     # bound at the start, since binding at the first call takes stack of its own; and a call
     # that ends a function of stack.c stays a call, from as deep as the others
-    program = harness.build("stack", ["bench/stack.c"], library,
+    program = harness.build("stack", ["bench/stack.c", "bench/turns.c", painted], library,
                             ["-O2", "-fno-optimize-sibling-calls", "-Wl,-z,now", *flags])
-    return {name: int(depth) for name, depth in map(str.split, harness.run([program]).splitlines())}
+    found = {name: int(number) for name, number in map(str.split, harness.run([program]).splitlines())}
+    return found, found.pop("wrong")
 
 
-def stacks(library, exported):
+def stacks(library, painted):
     """Each function's stack: as deep as it goes, less as deep as one that does nothing goes."""
-    mute = [f"-Wl,--defsym={name}=nothing" for name in exported]
-    taken, before = depths(library, []), depths(library, mute)
+    mute = [f"-Wl,--defsym={name}=nothing" for name in [*symbols(library, "T"), *symbols(painted, "T")]]
+    (taken, wrong), (before, _) = depths(library, painted, []), depths(library, painted, mute)
+    if wrong:
+        raise harness.Failed(f"turns.c: {wrong} calls of Reply and Renew aren't answered as they should be")
     return {name: taken[name] - before[name] for name in taken}
 
 
@@ -64,9 +72,17 @@ def md5_bounds(sizes, empty):
             f"{code + data:,} with its code, {bounds.counted(code + data, MD5_ALL)}")
 
 
-def table(library):
+def turn_rows(stack):
+    """Reply and Renew: what their callers take, less the table that each has."""
+    of_table = ctypes.sizeof(calls.Table)
+    rows = [f"{title:24} {'':10} {'':16} {stack[name] - of_table:>10}" for title, name in TURNS.items()]
+    return [*rows, "Reply and Renew are for callers in Rattle: the stack is that of one that has a table of 32 accounts, hands it over\n"
+                   f"and puts what comes back in its place, less the {of_table:,} bytes of its table."]
+
+
+def table(library, painted):
     exported = symbols(library, "T")
-    empty, stack = linked(library, []), stacks(library, exported)
+    empty, stack = linked(library, []), stacks(library, painted)
     everything = linked(library, exported)
     print("Bytes of each function in a linked program, unused sections dropped, and of the stack"
           "\nit takes below its return address at most, over the inputs of stack.c.")
@@ -74,6 +90,7 @@ def table(library):
     print("\n".join(row(name, linked(library, [name]), empty, stack.get(name, "not run")) for name in exported))
     print("\n".join(row(title, linked(library, names), empty, "") for title, names in GROUPS.items()))
     print(row("all of them", everything, empty, ""))
+    print("\n".join(turn_rows(stack)))
     print(md5_bounds(linked(library, ["lift_md5"]), empty))
     print(f"Variables: {everything['variables'] - empty['variables']} bytes. "
           f"Called and not counted: {', '.join(symbols(library, 'U')) or 'nothing'}.")

@@ -1,6 +1,8 @@
 /* The stack that each exported function takes: it runs on a painted stack, and
  * the deepest byte whose paint is gone tells how far down it went. Prints a
- * line for each function: its name, bytes from the top.
+ * line for each function: its name, bytes from the top. Behind them come the
+ * callers of Reply and Renew (turns.h), and how many of their calls weren't
+ * answered as they should be.
  *
  * The bytes from the top include what the caller took here. sizes.py builds
  * this program a second time with every exported name an alias of `nothing`,
@@ -12,6 +14,7 @@
 
 #include "bench.h"
 #include "lift.h"
+#include "turns.h"
 
 enum { STACK = 256 * 1024, ROOM = 4097 };
 
@@ -23,8 +26,6 @@ void nothing(void)
 
 static _Alignas(64) uint8_t stack[STACK];
 static uint8_t bytes[ROOM], buf[ROOM], card[99 * 52];
-
-#define BYTES(literal) (const uint8_t *)(literal), sizeof(literal) - 1
 
 /* On both sides of where padding takes another block, and one too long. */
 static const size_t lengths[] = {0, 55, 56, 64, 119, 120, 4096, 4097};
@@ -207,5 +208,8 @@ int main(void)
     measure("lift_write_card", call_write_card);
     measure("lift_password_of", call_password_of);
     measure("lift_bytes_of", call_bytes_of);
+    measure("painted_reply", call_reply);
+    measure("painted_renew", call_renew);
+    printf("wrong %zu\n", wrong_answers());
     return 0;
 }

@@ -51,10 +51,10 @@ def run(command, **options):
     return said
 
 
-def archive():
-    """The exported functions; after rt ci only crate panel is checked again."""
-    run(["rt", "staticlib", "panel"])
-    return ROOT / "target" / "staticlib" / "libpanel.a"
+def archive(crate="panel"):
+    """A crate's exported functions; after rt ci only that crate is checked again."""
+    run(["rt", "staticlib", crate])
+    return ROOT / "target" / "staticlib" / f"lib{crate}.a"
 
 
 def build(name, sources, library, flags):

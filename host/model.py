@@ -250,15 +250,18 @@ def card_program(stdin):
 
 
 class Account:
-    """02, R-4: with the line of the ports that wait for it, front first, and the ticks left of the front's turn."""
+    """02, R-4: with the line of the ports that wait for it, front first, and the ticks left of the front's turn.
+    R-5: with its last eight seeds, the present one first."""
 
     def __init__(self, *values):
+        self.seeds = []
         self.take(*values)
         self.line, self.turn = [], 0
 
     def take(self, algorithm, count, seed, password):
         """The values of an enrolment or a renewal."""
-        self.algorithm, self.count, self.seed, self.password = algorithm, count, seed.lower(), password
+        self.algorithm, self.count, self.password = algorithm, count, password
+        self.seeds = [seed.lower(), *self.seeds][:8]
 
     def join(self, port):
         """To the back; in an empty line the turn starts at once."""
@@ -304,7 +307,7 @@ class Table:
         self.accounts[id] = Account(algorithm, count, seed, password)
 
     def remove(self, id):
-        """54. The account's line goes with it."""
+        """54. The account's line goes with it, and what it remembers."""
         refuse_if(id not in self.accounts, 54)
         del self.accounts[id]
 
@@ -324,7 +327,7 @@ class Table:
     def challenge(self, port, room):
         """The checks of a turn, then 40. The account's algorithm, stored count less 1 and the seed."""
         account = self.account_in_turn(port)
-        return into_room(challenge_text(account.algorithm, account.seed, account.count - 1), room)
+        return into_room(challenge_text(account.algorithm, account.seeds[0], account.count - 1), room)
 
     def reply(self, port, text):
         """The checks of a turn, 30 to 33, then 61 or 62, or the new count."""
@@ -336,12 +339,12 @@ class Table:
         return account.count
 
     def renew(self, port, algorithm, count, seed, password, text):
-        """The checks of a turn, 51, 21, 23, 24, 63, then as Reply: only what is accepted changes the algorithm."""
+        """The checks of a turn, 51, 21, 23, 24, 63, then as Reply: only what is accepted changes the algorithm, and is remembered."""
         account = self.account_in_turn(port)
         refuse_if(not 2 <= count <= 9999, 51)
         check_algorithm(algorithm)
         check_seed(seed)
-        refuse_if(seed.lower() == account.seed, 63)
+        refuse_if(seed.lower() in account.seeds, 63)
         self.offer(port, account, read_reply(text))
         account.take(algorithm, count, seed, password)
         return count
@@ -383,9 +386,9 @@ class Table:
         refuse_if(not right, 61)
 
     def dump(self):
-        """The table on a line: accounts by rising id, each with its line and turn; ports."""
+        """The table on a line: accounts by rising id, each with its seeds, line and turn; ports."""
         accounts = ",".join(
-            f"{id}:{a.algorithm}:{a.count}:{a.password:016x}:{a.seed.hex()}:{'.'.join(map(str, a.line)) or '-'}:{a.turn}"
+            f"{id}:{a.algorithm}:{a.count}:{a.password:016x}:{'/'.join(seed.hex() for seed in a.seeds)}:{'.'.join(map(str, a.line)) or '-'}:{a.turn}"
             for id, a in sorted(self.accounts.items()))
         ports = ",".join(f"{p.wrong_run}:{p.shut_ticks}" for p in self.ports)
         return f"A={accounts or '-'} P={ports}"

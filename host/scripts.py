@@ -4,6 +4,8 @@
 the model as it is made, so that the next one can suit the table: the right
 reply of a port that has a turn, a full table, four ports in line. The days come
 in three manners: all ports crowd at one account, they spread over four, or mix.
+On each day two technicians renew accounts round rings of seeds, of a size that
+differs from day to day.
 """
 import collections
 import itertools
@@ -13,6 +15,7 @@ import harness
 import model
 from harness import call
 from sections import challenges, passwords, replies
+from technician import Technician
 
 PORTS = (0, 1, 2, 3)
 PHRASES = [b"A_Valid_Pass_Phrase", b"This is a test.", b"\0" * 10, bytes(range(128, 191))]
@@ -25,6 +28,8 @@ TOLD = ["gen", "chal", "wchal", "card", "enrol", "renew"]
 READERS = ["read", "reply", "renew"]
 # how the ports join: days with seeds one after the other take these in turn
 CROWD, SPREAD, MIX = MANNERS = ("crowd", "spread", "mix")
+# how many seeds the technicians' rings have, in turn too: up to 8 the first is remembered still when it comes up again, with 9 it is just forgotten
+RINGS = (2, 7, 8, 9, 10)
 # the ways in which four ports can stand in lines: how many in each, the longest first
 WAYS = [(4,), (3, 1), (2, 2), (2, 1, 1), (1, 1, 1, 1)]
 # ticks in one call: as many as a turn has, a line of four waits, a port is shut; each while there is one line, and while there are more
@@ -45,7 +50,12 @@ class Day:
         self.long_left = 2  # very long texts and long waits that the script may still have
         self.calls, self.weights = zip(*self.mood())
         self.manner = MANNERS[seed % len(MANNERS)]
-        self.filling = self.rng.choice([0, 0, 33])  # a day in three begins with a full table
+        self.ring = RINGS[seed % len(RINGS)]
+        self.technicians = [Technician(self, self.ring, id) for id in (1, 2)]
+        self.next = None  # what a technician does right after his last call
+        self.filling = self.rng.choice([False, False, True])  # a day in three begins with a full table
+        if self.filling:
+            self.most_ids = max(self.most_ids, 40)
 
     def mood(self):
         """The weight of each kind of call: another one for each day."""
@@ -55,7 +65,7 @@ class Day:
         weights = {
             self.enrol: rng.choice([4, 8, 30]), self.remove: rng.choice([1, 1, 6]),
             self.join: rng.choice([20, 30, 40]), self.leave: rng.choice([1, 2, 4]),
-            self.challenge: 4, self.reply: rng.choice([6, 15, 30]), self.renew: rng.choice([3, 8]),
+            self.challenge: 4, self.reply: rng.choice([6, 15, 30]), self.renew: rng.choice([3, 8]), self.ringed: rng.choice([30, 50]),
             self.tick: rng.choice([2, 5, 10]), self.dump: 6, self.new: 0.1,
             self.digest: 3, self.gen: 3, self.words: 2, self.hex: 2, self.read: 4, self.chal: 4,
             self.wchal: 3, self.card: 3, self.prog: 3, self.no_call: 2}
@@ -82,8 +92,11 @@ class Day:
 
     def line(self):
         """One more line, made of the table as it is. Where nobody waits, mostly somebody comes first, and where there are few accounts one more."""
-        if self.filling > 0:
-            self.filling -= 1
+        if self.next:
+            made, self.next = self.next, None
+            return made()
+        if self.filling:
+            self.filling = len(self.table.accounts) < 32
             return self.enrol()
         made = self.rng.choices(self.calls, self.weights)[0]
         if not self.busy() and made in (self.reply, self.renew, self.challenge, self.leave):
@@ -112,11 +125,16 @@ class Day:
         return self.rng.choice(chosen) if chosen else self.any_port()
 
     def joined_id(self):
-        """Mostly by the day's manner: an account that is waited for, or one that isn't."""
+        """Mostly by the day's manner: an account that is waited for, one that isn't, or either."""
         accounts = self.table.accounts.items()
-        suit = {CROWD: [id for id, account in accounts if account.line],
-                SPREAD: [id for id, account in accounts if not account.line and account.count > 1], MIX: []}[self.manner]
+        waited = [id for id, account in accounts if account.line]
+        suit = {CROWD: waited, SPREAD: [id for id, account in accounts if not account.line and account.count > 1],
+                MIX: self.rng.choice([waited, []])}[self.manner]
         return self.rng.choice(suit) if suit and self.rng.random() < 0.9 else self.id()
+
+    def crowded(self):
+        """Whether somebody waits, on a day on which all ports crowd at one account."""
+        return self.manner == CROWD and self.busy() != []
 
     def count(self):
         return self.rng.choice([2, 3, 5, *[self.rng.randrange(2, 60)] * 12, 0, 1, 9999, 10000, 65535])
@@ -135,11 +153,15 @@ class Day:
         return "%016x" % self.rng.choice([0, 2**64 - 1, *[self.rng.getrandbits(64)] * 6])
 
     def chained(self, algorithm, seed, count):
-        """The password of some pass-phrase at that count; those below it are remembered. Now and then by any algorithm."""
+        """The password of `kept`, where there is one for these values. Now and then by any algorithm."""
         if self.rng.random() < 0.1:
             algorithm = self.rng.choice([*model.NAMES])
         if algorithm not in model.NAMES or not 0 < count < 100:
             return self.password()
+        return self.kept(algorithm, seed, count)
+
+    def kept(self, algorithm, seed, count):
+        """The password of some pass-phrase at that count; those below it are kept."""
         passed = model.chain(algorithm, self.rng.choice(PHRASES), seed, count)
         self.before.update(zip(passed[1:], passed))
         return "%016x" % passed[-1]
@@ -183,11 +205,21 @@ class Day:
         return call("enrol", self.any_id(), *self.new_values())
 
     def remove(self):
-        return call("remove", self.id())
+        """Seldom a technician's account, which is to be renewed many times."""
+        id = self.id()
+        return call("remove", self.any_id() if self.spared(id) else id)
+
+    def spared(self, id):
+        """Whether an account is left alone by others than its technician: mostly, where it has one."""
+        return id in [technician.id for technician in self.technicians] and self.rng.random() < 0.9
+
+    def idle(self):
+        """The ports that don't wait yet and aren't shut."""
+        return [port for port in PORTS if not self.table.waited_for(port) and not self.table.ports[port].shut_ticks]
 
     def join(self):
-        """Mostly a port that doesn't wait yet and isn't shut."""
-        idle = [port for port in PORTS if not self.table.waited_for(port) and not self.table.ports[port].shut_ticks]
+        """Mostly a port that could."""
+        idle = self.idle()
         port = self.rng.choice(idle) if idle and self.rng.random() < 0.8 else self.any_port()
         return call("join", port, self.joined_id())
 
@@ -202,8 +234,14 @@ class Day:
         return call("reply", port, self.reply_text(port))
 
     def renew(self):
+        """Seldom with the right reply at a technician's account, in whose ring one seed more would be."""
         port = self.port()
-        return call("renew", port, *self.new_values(), self.reply_text(port))
+        spared = any(port in account.line and self.spared(id) for id, account in self.table.accounts.items())
+        return call("renew", port, *self.new_values(), self.any_reply() if spared else self.reply_text(port))
+
+    def ringed(self):
+        """What one of the technicians does next."""
+        return self.rng.choice(self.technicians).line()
 
     def tick(self):
         if self.long():

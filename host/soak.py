@@ -1,10 +1,10 @@
 """More random scripts on the program `replay`: `python3 host/soak.py N [SEED]`.
 
 N scripts, with the seeds SEED, SEED + 1 and so on; without SEED, from one that
-nobody has seen. Three in a row have the three manners of scripts.py. Ends with
-status 1 at the first answer that isn't the model's: the script's seed, the
-line, the answer and the model's are printed, and the script is kept under
-target/host. `python3 host/soak.py 1 SEED` runs it again.
+nobody has seen. Fifteen in a row have each manner of scripts.py with each ring.
+Ends with status 1 at the first answer that isn't the model's: the script's
+seed, the line, the answer and the model's are printed, and the script is kept
+under target/host. `python3 host/soak.py 1 SEED` runs it again.
 """
 import random
 import sys

@@ -13,7 +13,7 @@ sys.dont_write_bytecode = True
 
 import harness  # noqa: E402
 from sections import believed, cards, challenges, commands, compared, docs, house, lines, numbers, paper  # noqa: E402
-from sections import passwords, promises, refused, replay, replies, selftest, terminal, tools  # noqa: E402
+from sections import passwords, promises, refused, replay, replies, seeds, selftest, terminal, tools  # noqa: E402
 
 SECTIONS = [
     ("comparison can fail", selftest.comparison_can_fail),
@@ -48,6 +48,7 @@ SECTIONS = [
     ("program replay on lines that are no call", replay.no_calls),
     ("program replay on misread words", replay.misread),
     ("a line for each account", lines.sentences),
+    ("the last eight seeds", seeds.sentences),
     ("program replay at random", replay.at_random),
     ("uses in crates.txt", house.uses),
     ("layers in README.md", house.layers),

@@ -42,7 +42,7 @@ extern "C" {
 
 /* Which state of this header it is: 0 for the base, n after change request
  * R-n. */
-#define LIFT_VERSION 4
+#define LIFT_VERSION 5
 
 /* The algorithms by number. Any other number is refused as unknown (21); it is
  * compared whole, so 257 isn't 1. In a text an algorithm is its name, `md5` or

@@ -14,6 +14,8 @@ DEFINED = {("digests", "md5"), ("digests", "sha1"), ("digests", "rounds")}
 # The digests are of one kind, and what is the same part of each has one name.
 DIGESTS = {"md5", "sha1"}
 PARTS = {"compress", "digest", "digestbytes", "functions"}
+# For the benchmark alone, and a library because a program exports nothing to C: its functions promise nothing, and no crate stands on it.
+MEASURED = {"painted"}
 # The crates of a table's fields: who takes a table apart lists them too.
 FIELDS = {"accounts", "line", "port"}
 
@@ -26,6 +28,11 @@ def listed():
 
 def is_program(crate):
     return (CRATES / crate / "src" / "main.rt").exists()
+
+
+def is_relied_on(crate):
+    """Whether others rely on what a crate's functions do: on those of every library but what is measured."""
+    return not is_program(crate) and crate not in MEASURED
 
 
 def named_in(crate):
@@ -48,10 +55,18 @@ def held_to(crates, named):
             raise Failed(f"crates.txt, {crate}: not used {sorted(spare)}, not listed {sorted(missing)}")
 
 
+def apart(crates):
+    """No crate stands on what is measured."""
+    for crate, below in crates.items():
+        if MEASURED & set(below):
+            raise Failed(f"{crate} stands on {', '.join(sorted(MEASURED & set(below)))}, which is for the benchmark alone")
+
+
 def uses(driver):
     """crates.txt has what the sources name."""
     crates = listed()
     held_to(crates, named_in)
+    apart(crates)
     return f"{len(crates)} crates, {sum(map(len, crates.values()))} uses: crates.txt has those of the sources"
 
 

@@ -95,7 +95,7 @@ SCENES = {
         *good("tick 1"), shown(seven("-", 0), eight("-", 0), nine("-", 0))],
     "a renewal keeps the account's line": [
         *good("join 0 7", "join 1 7", "join 2 8", "tick 3"), (call("renew", 0, SHA1, 9, b"Lift1", "0" * 16, WORDS_7), "ok 9"),
-        ("dump", f"ok A=7:{SHA1}:9:{'0' * 16}:{b'lift1'.hex()}:1:60,{eight('2', 57)} P=0:0,0:0,0:0,0:0"), asked(1, b"otp-sha1 8 lift1\n")],
+        shown(f"7:{SHA1}:9:{'0' * 16}:{b'lift1'.hex()}/{b'avalidseed'.hex()}:1:60", eight("2", 57)), asked(1, b"otp-sha1 8 lift1\n")],
 }
 
 

@@ -3,6 +3,7 @@ import re
 
 import listing
 from harness import ROOT, Failed
+from sections import house
 
 CRATES = ROOT / "crates"
 PAGE = ROOT / "docs" / "PROMISES.md"
@@ -19,10 +20,10 @@ def section(heading):
 
 
 def functions():
-    """Each function of a library by its path, with its head: visibility, name and clauses."""
+    """Each function of a library that others rely on, by its path, with its head: visibility, name and clauses."""
     for crate in sorted(CRATES.iterdir()):
         for source in sorted((crate / "src").glob("**/*.rt")):
-            if (crate / "src" / "main.rt").exists():
+            if not house.is_relied_on(crate.name):
                 continue
             inside = source.relative_to(crate / "src").with_suffix("").parts
             path = [crate.name, *(part for part in inside if part != "lib")]

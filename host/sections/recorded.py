@@ -12,8 +12,13 @@ at once.
 
 Where a challenge named sha1, which the base refused, another unknown name of the same length stands for it: 15 calls of the one script
 and 14 of the other.
+
+R-5 has an account remember its seeds. No recorded renewal that was accepted takes one back. One of the first script that was wrong names one, and another
+seed stands for it, so that the recorded 61 holds. Of what a dump shows now the present seeds were recorded; those before them, 86 in the one script and
+16 in the other, are the ones that the recorded enrolments and renewals took, since the account was enrolled or made anew.
 """
 import collections
+import re
 
 import model
 from harness import ROOT, Failed, call
@@ -22,9 +27,12 @@ from harness import ROOT, Failed, call
 ALGORITHM_AT = {"gen": 1, "wchal": 1, "enrol": 2, "renew": 2}
 # a name that the base refused and R-1 knows; one of the same length that is refused still
 SHA1, UNKNOWN = b"otp-sha1".hex(), b"otp-sha0".hex()
-# of each script: how many calls name it, how many are left out, how many of our own make a table anew, and how many times
-Counted = collections.namedtuple("Counted", "renamed left_out made times")
-COUNTED = {"base_a": Counted(15, 60, 76, 5), "base_b": Counted(14, 600, 1888, 42)}
+# a seed that no recorded call has
+NEW_SEED = b"neverseen".hex()
+# of each script: how many calls name it, how many are left out, how many of our own make a table anew, and how many times; how many calls have a new seed,
+# and how many seeds in dumps weren't recorded
+Counted = collections.namedtuple("Counted", "renamed left_out made times reseeded older")
+COUNTED = {"base_a": Counted(15, 60, 76, 5, 1, 86), "base_b": Counted(14, 600, 1888, 42, 0, 16)}
 # a script of today, and of its calls how many make a table anew, and how many times
 Script = collections.namedtuple("Script", "lines answers made times", defaults=(0, 0))
 ON_THE_TABLE = {"new", "enrol", "remove", "join", "leave", "challenge", "reply", "renew", "tick", "dump"}
@@ -45,6 +53,11 @@ def dump_in(answer):
 # today's form
 
 
+def folded(seed):
+    """A seed in hex, in lower case."""
+    return bytes.fromhex(seed).lower().hex()
+
+
 def call_today(line):
     """A call of the base: md5 is its algorithm."""
     words = line.replace(SHA1, UNKNOWN).split(" ")
@@ -53,10 +66,17 @@ def call_today(line):
     return " ".join(words)
 
 
-def dump_today(dump):
+def seeds_today(id, seed, seeds):
+    """What the account remembers, newest first; the newest was recorded."""
+    if seeds[id][0] != seed:
+        raise Failed(f"account {id}: {seeds[id]}, and the seed that was recorded is {seed}")
+    return "/".join(seeds[id])
+
+
+def dump_today(dump, seeds):
     """All that wait do so for one account."""
     lines = {id: ".".join(str(port) for port, _ in dump.line) + f":{dump.turn}" for _, id in dump.line}
-    accounts = ",".join(f"{id}:1:{count}:{password}:{seed}:{lines.get(id, '-:0')}" for id, seed, count, password in dump.accounts)
+    accounts = ",".join(f"{id}:1:{count}:{password}:{seeds_today(id, seed, seeds)}:{lines.get(id, '-:0')}" for id, seed, count, password in dump.accounts)
     return f"ok A={accounts or '-'} P=" + ",".join(f"{run}:{shut}" for run, shut in dump.ports)
 
 
@@ -68,14 +88,14 @@ def marks_today(text, place):
     return marks
 
 
-def answer_today(line, answer):
-    """The answer that was recorded to that call."""
+def answer_today(line, answer, seeds):
+    """The answer that was recorded to that call; `seeds` has what each account remembers then."""
     name, words = line.split(" ")[0], answer.split(" ")
     if words[:2] == ["no", "31"]:
         words[2] = marks_today(line.split(" ")[-1], words[2])
     if name == "chal" and words[0] == "ok":
         words.insert(1, "1")
-    return dump_today(dump_in(answer)) if name == "dump" else " ".join(words)
+    return dump_today(dump_in(answer), seeds) if name == "dump" else " ".join(words)
 
 
 # a recorded table, made anew
@@ -147,22 +167,43 @@ def waiting_after(waiting, line, answer):
             if not (left and port == int(words[0])) and not (name == "remove" and answer == "ok" and id == int(words[0]))}
 
 
-def table_applies(lines, answers):
-    """Of each call, whether the recorded table is there when it has been answered; made anew at a dump where it wasn't."""
-    waiting, applies = {}, True
+def seeds_after(seeds, waiting, line, answer):
+    """What each account remembers, newest first, by the enrolments and renewals that are recorded as accepted."""
+    name, *words = line.split(" ")
+    if name == "enrol" and answer == "ok":
+        return {**seeds, int(words[0]): [folded(words[2])]}
+    if name == "renew" and answer[:2] == "ok":
+        id = waiting[int(words[0])]
+        return {**seeds, id: [folded(words[2]), *seeds[id]][:8]}
+    return seeds
+
+
+def reseeded(seeds, waiting, line, answer):
+    """A renewal that was wrong or wasn't read, of which the seed changes nothing: another one for a seed that is remembered."""
+    name, *words = line.split(" ")
+    if name == "renew" and re.match("no (3[0-3]|6[12])", answer) and folded(words[2]) in seeds[waiting[int(words[0])]]:
+        words[2] = NEW_SEED
+    return " ".join([name, *words])
+
+
+def followed(lines, answers):
+    """Each call with its answer, whether the recorded table is there once it is answered, whether it is made anew for it, and what the accounts remember."""
+    waiting, seeds, applies = {}, {}, True
     for line, answer in zip(lines, answers, strict=True):
-        waiting = waiting_after(waiting, line, answer)
-        applies = applies and len(set(waiting.values())) < 2 or line == "dump" and can_be_made(dump_in(answer))
-        yield applies
+        reworded = reseeded(seeds, waiting, line, answer)
+        seeds, waiting = seeds_after(seeds, waiting, line, answer), waiting_after(waiting, line, answer)
+        applies = applies and len(set(waiting.values())) < 2
+        anew = not applies and line == "dump" and can_be_made(dump_in(answer))
+        if anew:
+            applies, seeds = True, {id: [seed] for id, seed, *_ in dump_in(answer).accounts}
+        yield reworded, answer, applies, anew, seeds
 
 
 def applying(lines, answers):
     """For each call that applies, those that make the table before it, where it wasn't there, and the call itself, each with its answer of today."""
-    before = True
-    for line, answer, applies in zip(lines, answers, table_applies(lines, answers)):
+    for line, answer, applies, anew, seeds in followed(lines, answers):
         if applies or line.split(" ")[0] not in ON_THE_TABLE:
-            yield [*made(dump_in(answer))] if applies and not before else [], (call_today(line), answer_today(line, answer))
-        before = applies
+            yield [*made(dump_in(answer))] if anew else [], (call_today(line), answer_today(line, answer, seeds))
 
 
 def scripts():
@@ -170,7 +211,8 @@ def scripts():
     for name, due in COUNTED.items():
         lines, answers = ((ROOT / "host" / "replay" / f"{name}.{kind}").read_text().splitlines() for kind in ("calls", "answers"))
         ours, kept = zip(*applying(lines, answers))
-        counted = Counted(sum(SHA1 in line for line in lines), len(lines) - len(kept), sum(map(len, ours)), sum(map(bool, ours)))
+        counted = Counted(sum(SHA1 in line for line in lines), len(lines) - len(kept), sum(map(len, ours)), sum(map(bool, ours)),
+                          sum(NEW_SEED in line for line, _ in kept), sum(answer.count("/") for _, answer in kept))
         if counted != due:
             raise Failed(f"{name}: {counted}, not {due}")
         yield Script(*zip(*(pair for before, each in zip(ours, kept) for pair in [*before, each])), due.made, due.times)

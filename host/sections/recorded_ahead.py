@@ -1,12 +1,13 @@
 """The two recorded scripts for the state after R-7, host/replay/r7_a and r7_b, in today's line format.
 
-They are from the model that isn't ours, stay as they were recorded, and are what is known from outside of R-4's lines and turns. A call of R-5, R-6
-or R-7 is put into today's words where it has the same answer and leaves the same table; the others, all of which change nothing, are left out:
+They are from the model that isn't ours, stay as they were recorded, and are what is known from outside of R-4's lines and turns and of R-5's
+remembered seeds. A call of R-6 or R-7 is put into today's words where it has the same answer and leaves the same table; the others, all of which
+change nothing, are left out:
 
-- challenges lose ` ext` and four bytes of room, and an account of a dump all but its newest seed;
+- challenges lose ` ext` and four bytes of room;
 - a password that is offered is replied in hex, and so is what an extended text says; with new values it is a renewal;
 - a plain text that isn't read is no call on the table after R-7, so it is read by `read` here;
-- left out are extended texts that are read alone or are refused, `wext`, and 63, which R-5 gives for other seeds too.
+- left out are extended texts that are read alone or are refused, and `wext`.
 
 With each of these requests one of these rules goes, and with R-7 this file.
 """
@@ -18,7 +19,7 @@ from sections.recorded import Script
 
 EXT = b" ext"
 # how many calls of each script are left out
-LEFT_OUT = {"r7_a": 85, "r7_b": 87}
+LEFT_OUT = {"r7_a": 81, "r7_b": 78}
 
 
 def tokens(text):
@@ -71,19 +72,13 @@ def offered(line):
 def call_today(line, answer):
     """A call in today's words; None where there is none."""
     name = line.split(" ")[0]
-    if name == "wext" or answer == "no 63" or name == "read" and b":" in model.text_in(line.split(" ")[1]):
+    if name == "wext" or name == "read" and b":" in model.text_in(line.split(" ")[1]):
         return None
     if name in ("reply", "renew"):
         return replied(line, answer)
     if name in ("offer", "orenew"):
         return offered(line)
     return challenged(line) if name == "challenge" else line.replace("readplain", "read")
-
-
-def account_today(shown):
-    """An account of a dump with its newest seed."""
-    words = shown.split(":")
-    return ":".join([*words[:4], words[4].split("/")[0], *words[5:]]) if shown != "-" else shown
 
 
 def answer_today(line, answer):
@@ -99,8 +94,6 @@ def answer_today(line, answer):
         words[1:3] = [str(len(text)), text.hex()]
     if name in ("read", "readplain"):
         words.remove("pw")
-    if name == "dump":
-        words[1] = "A=" + ",".join(map(account_today, words[1].removeprefix("A=").split(",")))
     return " ".join(words)
 
 

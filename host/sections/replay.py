@@ -2,10 +2,12 @@
 import collections
 import itertools
 import random
+import re
 import subprocess
 
 import harness
 import model
+import remembered
 import scripts
 from harness import ROOT, Failed, call
 from sections import recorded as base
@@ -13,7 +15,7 @@ from sections import recorded_ahead, replies
 from sections.passwords import NO_CALLS
 
 PROGRAM = ROOT / "target" / "bin" / "replay"
-SEEDS = range(50)
+SEEDS = range(60)
 MOST = 1 << 20  # bytes of input
 
 
@@ -99,6 +101,31 @@ def hold_to_ticks(ticked):
     return ", ".join(f"{long} ticks or more in one line: {ticked[long, 1]}, in several: {ticked[long, 2]}" for long in scripts.LONG)
 
 
+def hold_to_remembered(seen):
+    """Fails if some kind of renewal, or of what an account remembers, was never shown."""
+    missing = [kind for kind in remembered.KINDS if not seen[kind]]
+    if missing:
+        raise Failed(f"never shown: {'; '.join(missing)}")
+    return ", ".join(f"{kind}: {seen[kind]}" for kind in remembered.KINDS)
+
+
+def ring_in(seen):
+    """How many seeds are in the ring that shows. Round a ring of n, a seed is named again when n - 1 others were taken since, and most seeds that are
+    named again are so by going round. The present seed, with none taken since, doesn't count."""
+    again = collections.Counter()
+    for kind, count in seen.items():
+        if found := re.fullmatch(r"(?:63|ok), ([1-9]\d*) back", kind):
+            again[int(found[1])] += count
+    return again.most_common(1)[0][0] + 1 if again else None
+
+
+def hold_to_rings(shown):
+    """Fails if the days of some ring don't show it."""
+    wrong = [f"{ring}: {ring_in(shown[ring])}" for ring in scripts.RINGS if ring_in(shown[ring]) != ring]
+    if wrong:
+        raise Failed(f"rings that aren't as they should be: {', '.join(wrong)}")
+
+
 def stored(_driver):
     """rt ci runs the program on its stored script; here the stored answers are held to the model."""
     script, said = ((ROOT / "crates" / "replay" / name).read_bytes().decode() for name in ("stdin", "stdout"))
@@ -127,6 +154,7 @@ def at_random(driver):
     """Each script on the program; its calls that are in C through the driver too."""
     seen, accepted, ticked, calls, in_c = collections.Counter(), collections.Counter(), collections.Counter(), 0, 0
     ways = {manner: collections.Counter() for manner in scripts.MANNERS}
+    shown = {ring: collections.Counter() for ring in scripts.RINGS}
     for seed in SEEDS:
         day = scripts.script(seed)
         found = scripts.differences(PROGRAM, day)
@@ -137,14 +165,17 @@ def at_random(driver):
         accepted += day.accepted
         ticked += day.ticked
         ways[day.manner].update(lines_in(answer) for line, answer in answered if line == "dump")
+        shown[day.ring] += remembered.kinds_in(*zip(*answered))
         lines, answers = zip(*[pair for pair in answered if pair[0].split(" ")[0] in harness.IN_C])
         harness.hold_to(lines, harness.asked(driver, lines), answers)
         calls, in_c = calls + len(answered), in_c + len(lines)
     hold_to_numbers(seen)
     hold_to_manners(ways)
+    hold_to_rings(shown)
     numbers = ", ".join(f"{number}: {seen[str(number)]}" for number in scripts.NUMBERS)
     return (f"{len(SEEDS)} scripts, {calls} calls, {in_c} of them through the driver too: same answers as the model "
             f"({hold_to_lines(sum(ways.values(), collections.Counter()))}; {hold_to_ticks(ticked)}; accepted, by algorithm, {hold_to_algorithms(accepted)}; "
+            f"{hold_to_remembered(sum(shown.values(), collections.Counter()))}; "
             f"ok: {seen['ok']}, bad: {seen['bad']}, {numbers})")
 
 

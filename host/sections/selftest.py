@@ -7,6 +7,7 @@ import sys
 
 import harness
 import model
+import remembered
 import scripts
 import tidy
 from compare import claims
@@ -92,9 +93,67 @@ def manners():
             *(fails(replay.hold_to_manners, {**days, one: days[other]}) for one, other in itertools.permutations(days, 2) if one != "few")]
 
 
+def rings():
+    """Days as they should be; and those of one ring like another's, or with the present seed alone named again."""
+    again = {ring: f"{'63' if ring <= remembered.PLACES else 'ok'}, {ring - 1} back" for ring in scripts.RINGS}
+    days = {ring: collections.Counter({again[ring]: 3, "63, 0 back": 9, "ok, 12 back": 2}) for ring in scripts.RINGS}
+    days["present"] = collections.Counter({"63, 0 back": 9})
+    return [not fails(replay.hold_to_rings, days),
+            *(fails(replay.hold_to_rings, {**days, one: days[other]}) for one, other in itertools.permutations(days, 2) if one != "present")]
+
+
+def enrolled(id, seed):
+    return [(call("enrol", id, 1, 9, seed, "0" * 16), "ok")]
+
+
+def renewed(seed, answer="ok 9", id=7, algorithm=1):
+    """Port 0 joins an account and renews it."""
+    return [(f"join 0 {id}", "ok"), (call("renew", 0, algorithm, 9, seed, "0" * 16, b"?"), answer)]
+
+
+def removed(*ids):
+    return [(f"remove {id}", "ok") for id in ids]
+
+
+# 31 accounts, and short scripts, each with what it shows, once and nothing else. A seed that shows nothing is one that only a wrong reader knows:
+# of an account that was removed, or forgot it, or had another room, or was in the table before the last.
+MANY = [pair for id in range(101, 132) for pair in enrolled(id, b"a")]
+NEW = [("new", "ok")]
+SHORT = [
+    ([*enrolled(7, b"lift1"), *renewed(b"lift2"), ("join 0 7", "ok"), ("reply 0 -", "ok 8"), *renewed(b"LIFT1", "no 63", algorithm=2),
+      *renewed(b"lift", "no 61")[1:], *renewed(b"lift"), *renewed(b"lift12"),
+      ("dump", f"ok A=7:1:9:{'0' * 16}:6c6966743132/6c696674/6c69667432/6c69667431:-:0 P=0:0,1:0,0:0,0:0")],
+     ["63, 1 back", "63 in upper case", "63 under the other algorithm", "63 after a reply", "ok after 61", "ok, begins a remembered one",
+      "ok, begins with a remembered one", "dump, 4 remembered"]),
+    ([*enrolled(7, b"lift1"), *enrolled(8, b"dog1"), *(pair for number in range(2, 10) for pair in renewed(b"dog%d" % number, id=8)),
+      *renewed(b"dog1"), *renewed(b"dog2"), *removed(8), *renewed(b"dog3")], ["ok, of another account"]),
+    ([*enrolled(7, b"lift1"), *renewed(b"lift2"), *removed(7), *enrolled(8, b"cat1"), *renewed(b"lift2", id=8), *removed(8), *enrolled(7, b"dog1"),
+      *renewed(b"lift1")], ["ok, of an account removed under this id"]),
+    ([*enrolled(7, b"lift1"), *(pair for number in range(2, 10) for pair in renewed(b"lift%d" % number)), *removed(7), *enrolled(7, b"dog1"),
+      *renewed(b"lift1")], []),
+    ([*enrolled(7, b"lift1"), *(pair for number in range(2, 10) for pair in renewed(b"lift%d" % number)), *enrolled(8, b"lift1"), *renewed(b"lift1")],
+     ["ok, 8 back"]),
+    ([*MANY, *enrolled(7, b"lift1"), *renewed(b"lift2"), *removed(7), *enrolled(8, b"dog1"), *renewed(b"lift1", id=8)],
+     ["ok, of another removed from this room"]),
+    ([*MANY, *enrolled(7, b"lift1"), *renewed(b"lift2"), *removed(7), *enrolled(7, b"dog1"), *renewed(b"lift1")],
+     ["ok, of an account removed under this id"]),
+    ([*MANY, *enrolled(7, b"lift1"), *removed(7, 101), *enrolled(8, b"dog1"), *renewed(b"lift1", id=8), *renewed(b"cat1", id=8)], []),
+    ([*MANY, *enrolled(7, b"lift1"), *removed(7), *NEW, *enrolled(8, b"dog1"), *renewed(b"lift1", id=8)], []),
+    ([*enrolled(7, b"lift1"), *removed(7), *enrolled(7, b"dog1"), *NEW, *enrolled(7, b"cat1"), *renewed(b"lift1"), *renewed(b"dog1"),
+      *NEW, *NEW, *enrolled(7, b"dog2"), *renewed(b"cat1")], ["ok, of the table before"]),
+]
+
+
+def memory():
+    """The short scripts, each as it should be read; and runs without some kind."""
+    return [*(remembered.kinds_in(*zip(*pairs)) == collections.Counter(due) for pairs, due in SHORT),
+            *without_each(replay.hold_to_remembered, remembered.KINDS)]
+
+
 def coverage_can_fail(driver):
     """A run in which some refusal never came, or no reply was accepted under some algorithm, is found; so is one with few challenges, without
-    some pattern of misread words, without some way of four ports in lines, with one line at a time, or with a manner that doesn't show."""
+    some pattern of misread words, without some way of four ports in lines, with one line at a time, with a manner or a ring that doesn't show, or
+    without some kind of renewal."""
     numbers_given = [*map(str, scripts.NUMBERS), *(f"21 by {name}" for name in scripts.TOLD),
                      *(f"31 with two marks or more by {name}" for name in scripts.READERS)]
     accepted = [("reply", 1, 1), ("reply", 2, 2), ("renew", 1, 1), ("renew", 1, 2), ("renew", 2, 1), ("renew", 2, 2)]
@@ -102,7 +161,7 @@ def coverage_can_fail(driver):
     read = [f"ok {number} 1 10 1 12" for number in model.NAMES] * 2000 + [f"no {number}" for number in range(20, 26)]
     found = [*without_each(replay.hold_to_numbers, numbers_given), *without_each(replay.hold_to_algorithms, accepted),
              *without_each(replay.hold_to_lines, scripts.WAYS), fails(replay.hold_to_lines, collections.Counter([*scripts.WAYS, *[(1,)] * 40])),
-             *manners(),
+             *manners(), *rings(), *memory(),
              not fails(replies.all_patterns, made), fails(replies.all_patterns, [(pattern, text.upper()) for pattern, text in made]),
              *(fails(replies.all_patterns, [each for each in made if each[0] != gone]) for gone in ("000000", "101010")),
              not fails(challenges.enough, read), *(fails(challenges.enough, read[at:][:len(read) - 1]) for at in (0, 1))]
@@ -131,14 +190,15 @@ def imports():
 
 
 def names_and_uses():
-    """Names that are each for one thing, and two that aren't; uses that are listed, one too many and one missing."""
+    """Names that are each for one thing, and two that aren't; uses that are listed, one too many and one missing; one of what is measured."""
     brought = {"line": [("crate", "line"), ("module", "laws")], "port": [("crate", "port"), ("definitions", "laws")]}
     same = {**brought, "port": [*brought["port"], ("definitions", "line")]}
     twice = {**brought, "port": [*brought["port"], ("module", "shut"), ("module", "shut")]}
     named = {"line": set(), "port": {"line"}}.get
     lists = [{"line": [], "port": ["line"]}, {"line": ["port"], "port": ["line"]}, {"line": [], "port": []}]
     return [not fails(house.one_thing, brought), fails(house.one_thing, same), fails(house.one_thing, twice),
-            not fails(house.held_to, lists[0], named), *(fails(house.held_to, each, named) for each in lists[1:])]
+            not fails(house.held_to, lists[0], named), *(fails(house.held_to, each, named) for each in lists[1:]),
+            not fails(house.apart, lists[0]), fails(house.apart, {"line": [], "port": ["painted"]})]
 
 
 def house_can_fail(driver):

@@ -1,10 +1,11 @@
 // What an account asks for, and what it becomes with the reply.
 ghost use mathlib.Core.Path.{_≡_};
-ghost use Prim.Native.Nat.{_-_};
+ghost use Prim.Native.Nat.{ℕ, _-_};
+ghost use mathlib.Core.List.{List};
 ghost use lib.ListN.{length};
 ghost use Rattle.challenge.specs.Challenges.{challengeText, challengeWrittenBy};
 ghost use Rattle.text.specs.Put.{leaves};
-ghost use Rattle.accounts.specs.Rooms.{roomOf};
+ghost use Rattle.accounts.specs.Rooms.{seedIn, roomOf};
 ghost use Rattle.accounts.specs.Accounts.{lowered};
 use crate::Account;
 use crate::seeds::seed_len;
@@ -23,8 +24,8 @@ fn count_below(account: Account) -> u16
 
 // Writes the account's challenge.
 pub fn write_challenge(account: Account, buf: &mut [u8]) -> Written
-    ensures answered { λ r. ⌜ r ≡ challengeWrittenBy (account .algorithm) (roomOf account .seed) (account .count - 1) (length (now (buf .entry))) ⌝ }
-    ensures left { λ r. ⌜ now (buf .exit) ≡ leaves r (challengeText (account .algorithm) (roomOf account .seed) (account .count - 1)) (now (buf .entry)) ⌝ }
+    ensures answered { λ r. ⌜ r ≡ challengeWrittenBy (account .algorithm) (seedIn account) (account .count - 1) (length (now (buf .entry))) ⌝ }
+    ensures left { λ r. ⌜ now (buf .exit) ≡ leaves r (challengeText (account .algorithm) (seedIn account) (account .count - 1)) (now (buf .entry)) ⌝ }
 {
     let seed = account.seed;
     let n = seed_len(account);
@@ -35,7 +36,7 @@ pub fn write_challenge(account: Account, buf: &mut [u8]) -> Written
 
 // The account one count down, with the password that was presented.
 pub fn lower(mut account: Account, password: u64) -> Account
-    ensures { λ r. ⌜ roomOf r ≡ lowered (roomOf account) password ⌝ }
+    ensures { λ r. ⌜ ((part : List ℕ) → roomOf r part ≡ lowered (roomOf account part) password) ⌝ }
 {
     let count = count_below(account);
     account.count = count;

@@ -3,15 +3,15 @@ ghost use mathlib.Core.Path.{_≡_};
 ghost use mathlib.Core.List.{map};
 ghost use Prim.Native.Nat.{_≤_};
 ghost use lib.ListN.{length};
+ghost use Rattle.accounts.specs.Rooms.{seedIn};
 ghost use Rattle.text.specs.Tests.{same};
 ghost use Rattle.text.specs.Kinds.{lowerOf};
-ghost use Rattle.accounts.specs.Rooms.{roomOf};
 use crate::Account;
 use text::kinds::lower;
 
 // How long an account's seed is.
 pub fn seed_len(account: Account) -> usize
-    ensures { λ r. ⌜ (r ≡ length (roomOf account .seed)) × (r ≤ 16) ⌝ }
+    ensures { λ r. ⌜ (r ≡ length (seedIn account)) × (r ≤ 16) ⌝ }
 {
     if account.len < 16 { account.len } else { 16 }
 }

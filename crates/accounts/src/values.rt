@@ -1,18 +1,19 @@
 // An account's new values: 51, 21, 23, 24 and 63.
 ghost use mathlib.Core.Path.{_≡_};
-ghost use Prim.Native.Nat.{_≤_};
-ghost use lib.ListN.{length};
-ghost use Rattle.accounts.specs.Rooms.{roomOf};
-ghost use mathlib.Core.List.{[], _∷_};
+ghost use Prim.Native.Nat.{ℕ, _≤_, _<_};
+ghost use lib.ListN.{length, take};
+ghost use Rattle.accounts.specs.Rooms.{roomOf, partOf, inPlaces};
+ghost use mathlib.Core.List.{List, [], _∷_};
 ghost use Rattle.refusal.specs.Checks.{inOrder};
 ghost use Rattle.password.specs.Algorithm as names;
 ghost use Rattle.password.specs.Algorithm.{algorithmChecked, algorithmIn};
-ghost use Rattle.accounts.specs.Accounts.{newRoom, countWithin, seedOther, valuesChecked, proposal, proposed};
+ghost use Rattle.accounts.specs.Accounts.{withValues, newRoom, renewedRoom, countWithin, newChecked, valuesChecked, proposal, proposed};
+ghost use Rattle.accounts.specs.OlderBytes.{remembering};
 use crate::Account;
 use crate::FREE;
 use crate::Proposed;
-use crate::seeds::same_seed;
-use crate::seeds::seed_len;
+use crate::remembered::is_remembered;
+use crate::remembered::one_more;
 use password::algorithm::Algorithm;
 use password::algorithm::Named;
 use password::algorithm::numbered;
@@ -42,21 +43,9 @@ fn check_algorithm(algorithm: u32) -> Checked
     }
 }
 
-// 63.
-fn check_other(present: Account, seed: &[u8]) -> Checked
-    ensures { λ r. ⌜ r ≡ seedOther (now (seed .entry)) (roomOf present) ⌝ }
-{
-    let kept = present.seed;
-    let n = seed_len(present);
-    if same_seed(seed, &kept[..n]) {
-        return Checked::Refused(Refusal::SeedSame);
-    }
-    Checked::Good
-}
-
-// The first of four checks that found something.
-fn in_order(first: Checked, second: Checked, third: Checked, last: Checked) -> Checked
-    ensures { λ r. ⌜ r ≡ inOrder (first ∷ second ∷ third ∷ last ∷ []) ⌝ }
+// The first of three checks that found something.
+fn in_order(first: Checked, second: Checked, last: Checked) -> Checked
+    ensures { λ r. ⌜ r ≡ inOrder (first ∷ second ∷ last ∷ []) ⌝ }
 {
     if let Checked::Refused(_) = first {
         return first;
@@ -64,20 +53,40 @@ fn in_order(first: Checked, second: Checked, third: Checked, last: Checked) -> C
     if let Checked::Refused(_) = second {
         return second;
     }
-    if let Checked::Refused(_) = third {
-        return third;
-    }
     last
 }
 
-fn check_values(present: Account, algorithm: u32, count: u16, seed: &[u8]) -> Checked
-    ensures { λ r. ⌜ r ≡ valuesChecked algorithm count (now (seed .entry)) (roomOf present) ⌝ }
+// What Enrol and Renew check: 51, 21, 23, 24.
+fn check_new(algorithm: u32, count: u16, seed: &[u8]) -> Checked
+    ensures { λ r. ⌜ r ≡ newChecked algorithm count (now (seed .entry)) ⌝ }
 {
     let counted = check_count(count);
     let known = check_algorithm(algorithm);
     let formed = check_seed(seed);
-    let other = check_other(present, seed);
-    in_order(counted, known, formed, other)
+    in_order(counted, known, formed)
+}
+
+// What Renew checks: the same, and then 63.
+fn check_values(
+    present: Account,
+    older: &[u8],
+    room: usize,
+    algorithm: u32,
+    count: u16,
+    seed: &[u8],
+) -> Checked
+    requires { ⌜ room < 32 ⌝ }
+    requires { ⌜ length (now older) ≡ 3808 ⌝ }
+    ensures { λ r. ⌜ r ≡ valuesChecked algorithm count (now (seed .entry)) (roomOf present (partOf (now (older .entry)) room)) ⌝ }
+{
+    let new = check_new(algorithm, count, seed);
+    if let Checked::Refused(_) = new {
+        return new;
+    }
+    if is_remembered(present, older, room, seed) {
+        return Checked::Refused(Refusal::SeedSame);
+    }
+    new
 }
 
 // The algorithm of that number. What is not one of theirs is refused before it is asked for.
@@ -90,10 +99,18 @@ fn algorithm_of(number: u32) -> Algorithm
     }
 }
 
-// An account with that id, and these values.
-fn account(id: u16, algorithm: u32, count: u16, seed: &[u8], password: &[u8; 8]) -> Account
+// An account with that id, with so many older seeds, and these values.
+fn account(
+    id: u16,
+    older_count: u8,
+    algorithm: u32,
+    count: u16,
+    seed: &[u8],
+    password: &[u8; 8],
+) -> Account
     requires { ⌜ length (now seed) ≤ 16 ⌝ }
-    ensures { λ r. ⌜ roomOf r ≡ newRoom id algorithm count (now (seed .entry)) (now (password .entry)) ⌝ }
+    ensures { λ r. ⌜ ((part : List ℕ) → roomOf r part
+        ≡ withValues id (take «older_count» (inPlaces 7 part)) algorithm count (now (seed .entry)) (now (password .entry))) ⌝ }
 {
     let mut kept = [0u8; 16];
     let len = put_lower(&mut kept, seed);
@@ -103,23 +120,17 @@ fn account(id: u16, algorithm: u32, count: u16, seed: &[u8], password: &[u8; 8])
         seed: kept,
         len,
         count,
+        older_count,
         password: number_of(*password),
     }
 }
 
-// The account with new values, in place of the present one. At Enrol that is a free room, whose seed is empty and so no other's.
-pub fn propose(
-    present: Account,
-    id: u16,
-    algorithm: u32,
-    count: u16,
-    seed: &[u8],
-    password: &[u8; 8],
-) -> Proposed
-    ensures { λ r. ⌜ proposal r ≡ proposed (valuesChecked algorithm count (now (seed .entry)) (roomOf present))
-        (newRoom id algorithm count (now (seed .entry)) (now (password .entry))) ⌝ }
+// What Enrol makes of these values: an account that remembers one seed.
+pub fn enrolment(id: u16, algorithm: u32, count: u16, seed: &[u8], password: &[u8; 8]) -> Proposed
+    ensures { λ r. ⌜ ((part : List ℕ) → proposal r part ≡ proposed (newChecked algorithm count (now (seed .entry)))
+        (newRoom id algorithm count (now (seed .entry)) (now (password .entry)))) ⌝ }
 {
-    let checked = check_values(present, algorithm, count, seed);
+    let checked = check_new(algorithm, count, seed);
     if let Checked::Refused(_) = checked {
         return Proposed {
             checked,
@@ -128,6 +139,42 @@ pub fn propose(
     }
     Proposed {
         checked,
-        account: account(id, algorithm, count, seed, password),
+        account: account(id, 0, algorithm, count, seed, password),
+    }
+}
+
+// What Renew makes of them, in place of the present account of that room. Its older seeds are as they are once the present one is remembered.
+pub fn renewal(
+    present: Account,
+    older: &[u8],
+    room: usize,
+    algorithm: u32,
+    count: u16,
+    seed: &[u8],
+    password: &[u8; 8],
+) -> Proposed
+    requires { ⌜ room < 32 ⌝ }
+    requires { ⌜ length (now older) ≡ 3808 ⌝ }
+    ensures { λ r. ⌜ proposal r (partOf (remembering room present (now (older .entry))) room)
+        ≡ proposed (valuesChecked algorithm count (now (seed .entry)) (roomOf present (partOf (now (older .entry)) room)))
+        (renewedRoom (roomOf present (partOf (now (older .entry)) room)) algorithm count (now (seed .entry)) (now (password .entry))) ⌝ }
+{
+    let checked = check_values(present, older, room, algorithm, count, seed);
+    if let Checked::Refused(_) = checked {
+        return Proposed {
+            checked,
+            account: FREE,
+        };
+    }
+    Proposed {
+        checked,
+        account: account(
+            present.id,
+            one_more(present),
+            algorithm,
+            count,
+            seed,
+            password,
+        ),
     }
 }

@@ -1,5 +1,6 @@
--- The letter's demands as theorems: Demand1, Demand2, Demand3, with AfterRefusal, NoAccounts, Tight, Isolation, OneStep, TablesMade and Examples. Their words
--- are in `grounds`, Listed and Conditions, in `reached`, Calls, InTurn, Day and Made, and in `refusal`, Each; how they are proved is in `grounds`.
+-- The letter's demands as theorems: Demand1, Demand2, Demand3, with AfterRefusal, NoAccounts, Tight, Isolation, SeedsAgain, OneStep, TablesMade and
+-- Examples. Their words are in `grounds`, Listed, Conditions, LongestWait and TenSeeds, in `reached`, Calls, InTurn, Day, Made and SeedsHad, and in
+-- `refusal`, Each; how they are proved is in `grounds`.
 pub mod Demand1
 pub mod Demand2
 pub mod Examples
@@ -10,3 +11,4 @@ pub mod AfterRefusal
 pub mod OneStep
 pub mod Demand3
 pub mod Isolation
+pub mod SeedsAgain

@@ -12,7 +12,7 @@ use Rattle.reached.specs.Calls.{Call, after}
 use Rattle.reached.specs.InTurn.{Reached, HasTurn, keepsAlgorithm}
 use Rattle.reached.specs.Day.{SteppedDown, Renewed, waitedFor}
 use Rattle.grounds.specs.Keeps.{made, turn-account}
-use Rattle.grounds.specs.Owned.{call-keeps-algorithm}
+use Rattle.grounds.specs.Owned.{unrenewed-keeps}
 use Rattle.grounds.specs.Answering.{reply-by-id}
 use Rattle.grounds.specs.Replies.{reply-taken, taken-steps-down, taken-renews}
 
@@ -36,7 +36,7 @@ steps-down-by-id s r p i n text t e =
 -- R-1, "an account keeps its algorithm": on any table, whatever call is made that is no renewal and doesn't remove the account.
 pub algorithm-kept : (s : State) (i : ℕ) → isThere i s ≡ true → (c : Call) → keepsAlgorithm i c ≡ true
     → accountOf i (after c s) .algorithm ≡ accountOf i s .algorithm
-algorithm-kept s i there c k = call-keeps-algorithm s i there c k
+algorithm-kept s i there c k = unrenewed-keeps s i there c k .0
 
 -- "and renewal may change it": an accepted renewal, on any table, is answered with the new count, and the account has then the new algorithm,
 -- count, seed and password; what the text was read as was hashed by the algorithm that the account had.

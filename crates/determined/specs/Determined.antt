@@ -23,10 +23,14 @@ use Rattle.text.specs.Put.{leaves}
 abbrev pub Answers : {K : Type 0} {A R E : K → Type 0} → ((k : K) → A k → R k → E k → Type 0) → Type 0
 Answers {K} {A} {R} {E} Promise = (k : K) (a : A k) (y z : R k) (e f : E k) → Promise k a y e → Promise k a z f → y ≡ z
 
--- They are equal as they are seen.
+-- The results are equal as they are seen: the answers, and what was lent as it is at the end.
+abbrev pub AsSeen : {K : Type 0} {A R E : K → Type 0} {S : Type 0} → ((k : K) → A k → R k → E k → Type 0) → ((k : K) → A k → R k → E k → S) → Type 0
+AsSeen {K} {A} {R} {E} Promise seen =
+    (k : K) (a : A k) (y z : R k) (e f : E k) → Promise k a y e → Promise k a z f → seen k a y e ≡ seen k a z f
+
+-- The answers are equal as they are seen.
 abbrev pub AnswersSeen : {K : Type 0} {A R E : K → Type 0} {S : Type 0} → ((k : K) → A k → R k → E k → Type 0) → ((k : K) → R k → S) → Type 0
-AnswersSeen {K} {A} {R} {E} Promise seen =
-    (k : K) (a : A k) (y z : R k) (e f : E k) → Promise k a y e → Promise k a z f → seen k y ≡ seen k z
+AnswersSeen {K} {A} {R} {E} Promise seen = AsSeen Promise (λ k a y e. seen k y)
 
 -- What was lent is the same at the end.
 abbrev pub Lent : {K : Type 0} {A R E : K → Type 0} {S : Type 0} → ((k : K) → A k → R k → E k → Type 0) → ((k : K) → E k → S) → Type 0

@@ -1,6 +1,8 @@
 -- The promises of `line`, `port`, `accounts`, `table`, `login` and `turns` determine their results: lines, accounts and tables as far as their
 -- bytes mean something.
+use Prim.Native.Nat.{ℕ}
 use mathlib.Core.Path.{sym, _∙_}
+use mathlib.Core.List.{List, []}
 use denote.Ref.{now}
 use Rattle.line.proofs.fresh.Reads as line-fresh
 use Rattle.line.proofs.join.Reads as line-join
@@ -21,7 +23,9 @@ use Rattle.port.specs.Port.{cooled, rightly, wrongly}
 use Rattle.table.proofs.held.place_of.Reads as place-of
 use Rattle.table.proofs.held.account_at.Reads as account-at
 use Rattle.table.proofs.held.put.Reads as put
-use Rattle.accounts.proofs.values.propose.Reads as propose
+use Rattle.accounts.proofs.values.enrolment.Reads as enrolment
+use Rattle.accounts.proofs.values.renewal.Reads as renewal
+use Rattle.accounts.proofs.older.remember.Reads as remember
 use Rattle.accounts.proofs.lowered.write_challenge.Reads as write-challenge
 use Rattle.accounts.proofs.lowered.lower.Reads as lower
 use Rattle.table.proofs.fresh.Reads as table-fresh
@@ -34,11 +38,12 @@ use Rattle.turns.proofs.challenge.Reads as challenge
 use Rattle.turns.proofs.reply.Reads as reply
 use Rattle.turns.proofs.renew.Reads as renew
 use Rattle.line.specs.Line.{waiting}
-use Rattle.accounts.specs.Rooms.{roomOf}
+use Rattle.accounts.specs.Rooms.{partOf, roomOf}
 use Rattle.accounts.specs.Accounts.{proposal}
+use Rattle.accounts.specs.OlderBytes.{remembering}
 use Rattle.table.specs.Table.{view}
 use Rattle.table.specs.Steps.{settled, answered}
-use Rattle.determined.specs.Determined.{Answers, AnswersSeen, AnswersAndLent, LentByHand, left, one-fact}
+use Rattle.determined.specs.Determined.{Answers, AsSeen, AnswersSeen, Lent, AnswersAndLent, LentByHand, left, one-fact}
 
 -- Lines are seen as the ports that wait for each room's account, front first, and the turn.
 pub line-fresh-determined : AnswersSeen line-fresh.Learnt (λ k y. waiting y)
@@ -88,49 +93,56 @@ lent-right-determined M 𝓤 H A mem run k a g y z e f = one-fact 𝓤 (rightly 
 pub lent-wrong-determined : LentByHand lent-wrong.ended (λ M 𝓤. lent-wrong.clauses 𝓤) (λ k e. now (e .0))
 lent-wrong-determined M 𝓤 H A mem run k a g y z e f = one-fact 𝓤 (wrongly (now (a .0))) (now (e .0)) (now (f .0))
 
--- An account is seen as what it means, without the zeros after its seed.
+-- The older seeds stand apart: the promises of functions that are not lent them speak of any bytes for them.
 pub place-of-determined : Answers place-of.Learnt
-place-of-determined k a y z e f p q = p .0 ∙ sym (q .0)
+place-of-determined k a y z e f p q = p [] .0 ∙ sym (q [] .0)
 
-pub account-at-determined : AnswersSeen account-at.Learnt (λ k y. roomOf y)
-account-at-determined k a y z e f p q = p ∙ sym q
+-- An account is seen as what it means, without the zeros after its seed.
+pub account-at-determined : (older : List ℕ) → AsSeen account-at.Learnt (λ k a y e. roomOf y (partOf older (a .1 .0)))
+account-at-determined older k a y z e f p q = p older ∙ sym (q older)
 
-pub put-determined : AnswersSeen put.Learnt (λ k y. view y)
-put-determined k a y z e f p q = p ∙ sym q
+pub put-determined : (older : List ℕ) → AnswersSeen put.Learnt (λ k y. view y older)
+put-determined older k a y z e f p q = p older ∙ sym (q older)
 
-pub propose-determined : AnswersSeen propose.Learnt (λ k y. proposal y)
-propose-determined k a y z e f p q = p ∙ sym q
+pub enrolment-determined : (part : List ℕ) → AnswersSeen enrolment.Learnt (λ k y. proposal y part)
+enrolment-determined part k a y z e f p q = p part ∙ sym (q part)
+
+pub renewal-determined : AsSeen renewal.Learnt (λ k a y e. proposal y (partOf (remembering (a .1 .1 .0) (a .0) (now (a .1 .0))) (a .1 .1 .0)))
+renewal-determined k a y z e f p q = p ∙ sym q
+
+pub remember-determined : Lent remember.Learnt (λ k e. now (e .0))
+remember-determined k a y z e f p q = p ∙ sym q
 
 pub write-challenge-determined : AnswersAndLent write-challenge.Learnt (λ k e. now (e .1 .0))
 write-challenge-determined k a y z e f p q = left _ _ p q
 
-pub lower-determined : AnswersSeen lower.Learnt (λ k y. roomOf y)
-lower-determined k a y z e f p q = p ∙ sym q
+pub lower-determined : (part : List ℕ) → AnswersSeen lower.Learnt (λ k y. roomOf y part)
+lower-determined part k a y z e f p q = p part ∙ sym (q part)
 
--- A table is seen by its view, beside the answer.
-pub table-fresh-determined : AnswersSeen table-fresh.Learnt (λ k y. view y)
-table-fresh-determined k a y z e f p q = p ∙ sym q
+-- A table is seen by its view, beside the answer, and with the older seeds that Renew leaves.
+pub table-fresh-determined : (older : List ℕ) → AnswersSeen table-fresh.Learnt (λ k y. view y older)
+table-fresh-determined older k a y z e f p q = p older ∙ sym (q older)
 
-pub enrol-determined : AnswersSeen enrol.Learnt (λ k y. settled y)
-enrol-determined k a y z e f p q = p ∙ sym q
+pub enrol-determined : (older : List ℕ) → AnswersSeen enrol.Learnt (λ k y. settled y older)
+enrol-determined older k a y z e f p q = p older ∙ sym (q older)
 
-pub remove-determined : AnswersSeen remove.Learnt (λ k y. settled y)
-remove-determined k a y z e f p q = p ∙ sym q
+pub remove-determined : (older : List ℕ) → AnswersSeen remove.Learnt (λ k y. settled y older)
+remove-determined older k a y z e f p q = p older ∙ sym (q older)
 
-pub join-determined : AnswersSeen join.Learnt (λ k y. settled y)
-join-determined k a y z e f p q = p ∙ sym q
+pub join-determined : (older : List ℕ) → AnswersSeen join.Learnt (λ k y. settled y older)
+join-determined older k a y z e f p q = p older ∙ sym (q older)
 
-pub leave-determined : AnswersSeen leave.Learnt (λ k y. settled y)
-leave-determined k a y z e f p q = p ∙ sym q
+pub leave-determined : (older : List ℕ) → AnswersSeen leave.Learnt (λ k y. settled y older)
+leave-determined older k a y z e f p q = p older ∙ sym (q older)
 
-pub tick-determined : AnswersSeen tick.Learnt (λ k y. view y)
-tick-determined k a y z e f p q = p ∙ sym q
+pub tick-determined : (older : List ℕ) → AnswersSeen tick.Learnt (λ k y. view y older)
+tick-determined older k a y z e f p q = p older ∙ sym (q older)
 
 pub challenge-determined : AnswersAndLent challenge.Learnt (λ k e. now (e .1 .1 .0))
-challenge-determined k a y z e f p q = left _ _ p q
+challenge-determined k a y z e f p q = left _ _ (p .0 [], p .1 []) (q .0 [], q .1 [])
 
-pub reply-determined : AnswersSeen reply.Learnt (λ k y. answered y)
-reply-determined k a y z e f p q = p ∙ sym q
+pub reply-determined : (older : List ℕ) → AnswersSeen reply.Learnt (λ k y. answered y older)
+reply-determined older k a y z e f p q = p older ∙ sym (q older)
 
-pub renew-determined : AnswersSeen renew.Learnt (λ k y. answered y)
-renew-determined k a y z e f p q = p ∙ sym q
+pub renew-determined : AsSeen renew.Learnt (λ k a y e. answered y (now (e .1 .0)))
+renew-determined k a y z e f p q = p .0 ∙ sym (q .0)

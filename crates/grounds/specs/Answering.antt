@@ -31,7 +31,7 @@ use Rattle.accounts.specs.Rooms.{Room}
 use Rattle.line.specs.Line.{left}
 use Rattle.table.specs.Table.{State, Held, freeRoom, placeOf, accountOf, standsAt, ownRoom, ownAccount, lined}
 use Rattle.table.specs.Steps as Steps
-use Rattle.accounts.specs.Accounts.{newRoom, lowered}
+use Rattle.accounts.specs.Accounts.{renewedRoom, lowered}
 use Rattle.table.specs.Steps.{turnChecked, challengeFor, challenge}
 use Rattle.reached.specs.Calls.{Call, run}
 use Rattle.reached.specs.InTurn.{quiet, HasTurn}
@@ -40,7 +40,7 @@ use Rattle.reached.specs.RoomsFound.{placed-id}
 use Rattle.reached.specs.RoomsChanged.{there-parts, same-place}
 use Rattle.reached.specs.LinesChanged.{lined-place}
 use Rattle.reached.specs.Day.{waitedFor, passwordOf, Accepts, Day}
-use Rattle.reached.specs.Made.{isKept, AccountGood, Made}
+use Rattle.reached.specs.Made.{isKept, SeedGood, AccountGood, Made}
 use Rattle.grounds.specs.Keeps.{account-good, made-run, turn-there, turn-account, turn-has}
 use Rattle.grounds.specs.Owned.{turn-keeps, challenge-kept}
 use Rattle.grounds.specs.Replies.{Taken, accepted-account, turn-checked, reply-accepted, reply-taken, taken-renewal, taken-renews}
@@ -71,8 +71,8 @@ kept-seed (b ∷ s) e =
     let rest = kept-seed s (halves .1) in
     (ap₂ (λ (c : ℕ) (t : List ℕ). c ∷ t) (first .0) (rest .0), rw (first .1) (rest .1))
 
-pub seed-checked : (seed : List ℕ) → 1 ≤ length seed → length seed ≤ 16 → plain seed ≡ true → seedChecked seed ≡ Checked.Good
-seed-checked seed a b e = rw (le-leb 1 (length seed) a, le-leb (length seed) 16 b, e)
+pub seed-checked : (seed : List ℕ) → SeedGood seed → seedChecked seed ≡ Checked.Good
+seed-checked seed good = rw (le-leb 1 (length seed) (good .from), le-leb (length seed) 16 (good .to), kept-seed seed (good .kept) .1)
 
 -- ---- the day, for the account whose turn it is
 
@@ -134,7 +134,15 @@ module _ (p i : ℕ) (phrase : List ℕ) (s : State) (m : Made s) (t : HasTurn p
         kept =
             ap (λ (a : Steps.After Replied). accountOf i (a .state)) took
             ∙ accepted-by-id p i (lowered old w) s at there with-id
-            ∙ (λ k. record { id = with-id k; algorithm = own k .algorithm; seed = own k .seed; count = old .count - 1; password = w });
+            ∙ (λ k.
+            record {
+              id = with-id k;
+              algorithm = own k .algorithm;
+              seed = own k .seed;
+              older = own k .older;
+              count = old .count - 1;
+              password = w;
+            });
       }
 
   turn-day : (buffer : List ℕ) → 1 < ownAccount p s .count → phraseChecked phrase ≡ Checked.Good
@@ -148,8 +156,8 @@ module _ (p i : ℕ) (phrase : List ℕ) (s : State) (m : Made s) (t : HasTurn p
       let seed = old .seed in
       let count = old .count - 1 in
       let good = subst AccountGood (sym own) (account-good i s (facts .0) (m .good)) in
-      let keeps = kept-seed seed (good .seed-kept) in
-      let right = seed-checked seed (good .seed-from) (good .seed-to) (keeps .1) in
+      let keeps = kept-seed seed (good .seeds .0 .kept) in
+      let right = seed-checked seed (good .seeds .0) in
       let most = good .count-to in
       let low : count ≤ 9999 = omega arith in
       let checked = turn-checked p s (facts .1) (facts .2) (turn-has p i s m t) (λ z. there-parts i (s .rooms) (facts .0) .0 (sym with-id ∙ z)) unused in
@@ -274,5 +282,5 @@ pub renew-by-id : (p i n number count : ℕ) (seed new text : List ℕ) (s : Sta
     → Steps.renew p number count seed new text s .answer ≡ Replied.Accepted n
     → waitedFor p s (Steps.renew p number count seed new text s .state) ≡ accountOf i (Steps.renew p number count seed new text s .state)
 renew-by-id p i n number count seed new text s m t e =
-    taken-by-id p i n (readingOf text) (λ w. newRoom (ownAccount p s .id) number count seed new) s (Steps.renew p number count seed new text s .state) m t
+    taken-by-id p i n (readingOf text) (λ w. renewedRoom (ownAccount p s) number count seed new) s (Steps.renew p number count seed new text s .state) m t
     (taken-renewal p n number count seed new text s e) refl

@@ -24,7 +24,8 @@ use Rattle.challenge.specs.Challenges.{opening, tokenAt, endOf, countAt, seedAt
 use Rattle.cards.specs.CardChecks.{countOf}
 use Rattle.cards.specs.Cards.{cardOf}
 use Rattle.cards.specs.Printed.{firstLine, keptLine, pastLine, linesAsked}
-use Rattle.accounts.specs.Rooms.{Room}
+use Rattle.accounts.specs.Rooms.{Room, remembered}
+use Rattle.accounts.specs.Accounts.{isOneOf}
 use Rattle.table.specs.Table.{State, isThere, accountOf, portOf, waits, ownAccount, hasTurn}
 use Rattle.table.specs.Steps.{challengeFor}
 use Rattle.reached.specs.Calls.{Call}
@@ -140,13 +141,13 @@ cardAsked input = cardOf (firstLine input) (keptLine (pastLine input)) (linesAsk
 abbrev pub isOutside : ℕ → Bool
 isOutside count = not (leb 2 count && leb count 9999)
 
--- An account's new values: 51, 21 "after 51", 23, 24, and 63, "new seed equals the present one, case folded".
+-- An account's new values: 51, 21 "after 51", 23, 24, and 63, by R-5 "equal to a remembered seed", "case folded".
 abbrev pub valuesRows : ℕ → ℕ → List ℕ → Room → List Row
 valuesRows number count seed present =
     (51, isOutside count) ∷ []
     ++ algorithmRows number
     ++ seedRows seed
-    ++ (63, same (map lowerOf seed) (present .seed)) ∷ []
+    ++ (63, isOneOf (map lowerOf seed) (remembered present)) ∷ []
 
 -- Challenge, Reply and Renew: "55, 59, 60, 58". 55: "port over 3"; 58: "account used up: stored count 1".
 abbrev pub turnRows : ℕ → State → List Row

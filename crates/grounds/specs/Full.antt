@@ -25,6 +25,13 @@ pub settled-answer : (s s′ : State) (check : Checked) → unless (refused s) c
 settled-answer s s′ Checked.Good = refl
 settled-answer s s′ (Checked.Refused why) = refl
 
+-- A refusal that is given by the last check and by none before it: those find nothing wrong.
+pub last-refuses : (why : Refusal) (before last : Checked) → (before ≡ Checked.Refused why → ⊥)
+    → unless Checked.Refused before (inOrder (last ∷ [])) ≡ Checked.Refused why → (before ≡ Checked.Good) × (last ≡ Checked.Refused why)
+last-refuses why Checked.Good Checked.Good n e = let z : _≡_ {A = ℕ} 0 1 = cc in absurd (omega arith)
+last-refuses why Checked.Good (Checked.Refused w) n e = (refl, e)
+last-refuses why (Checked.Refused w) last n e = absurd (n e)
+
 module _ (id number count : ℕ) (seed password : List ℕ) (s : State) where
   -- The checks before 53, and then whether there is a room.
   abbrev before : List Checked
@@ -43,16 +50,12 @@ module _ (id number count : ℕ) (seed password : List ℕ) (s : State) where
       → (enrol id number count seed password s .answer ≡ Checked.Refused Refusal.TableFull)
       ↔ ((inOrder before ≡ Checked.Good) × (accountsIn (s .rooms) ≡ 32))
   enrol-full h = (
-    λ e. let parts = go (inOrder before) (roomLeft s) other-checks (sym enrol-answer ∙ e) in (parts .0, full-exactly s h .0 (parts .1)),
+    λ e.
+        let parts = last-refuses Refusal.TableFull (inOrder before) (roomLeft s) other-checks (sym enrol-answer ∙ e) in
+        (parts .0, full-exactly s h .0 (parts .1)),
     λ p.
         enrol-answer ∙ ap₂ (λ (j k : Checked). unless Checked.Refused j (inOrder (k ∷ []))) (p .0) (full-exactly s h .1 (p .1)),
   )
-    where
-      go : (j k : Checked) → (j ≡ Checked.Refused Refusal.TableFull → ⊥) → unless Checked.Refused j (inOrder (k ∷ [])) ≡ Checked.Refused Refusal.TableFull
-          → (j ≡ Checked.Good) × (k ≡ Checked.Refused Refusal.TableFull)
-      go Checked.Good Checked.Good n e = let z : _≡_ {A = ℕ} 0 1 = cc in absurd (omega arith)
-      go Checked.Good (Checked.Refused why) n e = (refl, e)
-      go (Checked.Refused why) k n e = absurd (n e)
 
   pub enrol-taken : inOrder before ≡ Checked.Good → roomLeft s ≡ Checked.Good → enrol id number count seed password s .answer ≡ Checked.Good
   enrol-taken e f = enrol-answer ∙ ap₂ (λ (j k : Checked). unless Checked.Refused j (inOrder (k ∷ []))) e f

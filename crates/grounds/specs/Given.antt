@@ -29,6 +29,7 @@ use Rattle.reply.specs.Reply.{isWord, sixWords, marksOf, foundReading, readingO
 use Rattle.cards.specs.CardChecks.{cardChecked}
 use Rattle.cards.specs.Cards.{cardWritten}
 use Rattle.line.specs.Line.{some, others, turnWithout, left}
+use Rattle.accounts.specs.Accounts.{isOneOf}
 use Rattle.table.specs.Table.{placeOf, inLines, standsAt}
 use Rattle.table.specs.Steps as Steps
 use Rattle.table.specs.Steps.{
@@ -129,7 +130,7 @@ thirtyTwo = map (λ id. Call.Enrol id 1 2 (codes "a") eight) (upTo 32 (λ k. suc
 
 -- 50 to 63: the table
 table-given : Each Given (50 ∷ 51 ∷ 52 ∷ 53 ∷ 54 ∷ 55 ∷ 56 ∷ 57 ∷ 58 ∷ 59 ∷ 60 ∷ 61 ∷ 62 ∷ 63 ∷ [])
-unfolding callNumber codes plain same run enrol enrolChecked remove joinChecked Steps.joins join leaveChecked leave turnChecked challenge
+unfolding callNumber codes plain same isOneOf run enrol enrolChecked remove joinChecked Steps.joins join leaveChecked leave turnChecked challenge
     offered replyRead reply renewChecked renewRead renew some others turnWithout left placeOf inLines standsAt readingOf sixWords isWord
     sixteenDigits hexReading every parted unspaced digitsOf Digits.numberAfter hash fold numberAfter md5 registers absorbed
     compressed rounds performed operation round1 round2 round3 round4 blockAt paddedWord paddedByte upTo

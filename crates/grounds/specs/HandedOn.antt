@@ -11,7 +11,7 @@ use Rattle.refusal.specs.declared.Reading.{Reading}
 use Rattle.refusal.specs.Numbers.{listingOf}
 use Rattle.refusal.specs.Checks.{unless}
 use Rattle.reply.specs.Reply.{readingOf}
-use Rattle.accounts.specs.Accounts.{lowered, newRoom}
+use Rattle.accounts.specs.Accounts.{lowered, renewedRoom}
 use Rattle.table.specs.declared.Replied.{Replied}
 use Rattle.table.specs.Table.{State, ownAccount}
 use Rattle.table.specs.Steps as Steps
@@ -54,4 +54,4 @@ module _ (why : Refusal) (own : isIn (listingOf why .0) thirties ≡ true) (othe
   unfolding Steps.renew Steps.renewRead
   renew-hands-on port number count seed new text s =
       handed-on s (renewChecked port number count seed s) (renew-never thirties why own port number count seed s refl refl) (readingOf text) _
-      (λ w. offered-other why other port w (newRoom (ownAccount port s .id) number count seed new) s)
+      (λ w. offered-other why other port w (renewedRoom (ownAccount port s) number count seed new) s)

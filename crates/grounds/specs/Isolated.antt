@@ -5,7 +5,7 @@ use native.Mathlib.Decide.{ℕ-discrete}
 use mathlib.Core.Path.{_≡_, refl, sym, ap, _∙_}
 use mathlib.Core.Bool.{Bool, true, false, true≢false, cond, not}
 use mathlib.Core.List.{List, [], _∷_}
-use borrow.Author.Tests.{eqb-true, eqb-false, not-true, ltb-true, lt-ltb}
+use borrow.Author.Tests.{eqb-true, eqb-false, ne-eqb, not-true, ltb-true, lt-ltb}
 use lib.Dec.{eqb, ltb}
 use lib.ListN.{length, getD, set}
 use lib.Seq.{getD-set-same, getD-set-other}
@@ -20,12 +20,13 @@ use Rattle.reply.specs.Reply.{readingOf}
 use Rattle.line.specs.Line as Line
 use Rattle.line.specs.Line.{empty, standsIn, turnJoined}
 use Rattle.accounts.specs.Rooms.{Room}
-use Rattle.accounts.specs.Accounts.{newRoom, lowered}
+use Rattle.accounts.specs.Accounts.{newRoom, renewedRoom, lowered}
 use Rattle.table.specs.Table.{
   State,
   Held,
   freeRoom,
   placeOf,
+  holds,
   isThere,
   roomAt,
   heldOf,
@@ -39,6 +40,7 @@ use Rattle.table.specs.Table.{
   withRoom,
   withAccount,
 }
+use Rattle.table.specs.HeldLaws.{account-there}
 use Rattle.table.specs.TableChecks.{accountThere}
 use Rattle.table.specs.Steps as Steps
 use Rattle.table.specs.Steps.{
@@ -85,7 +87,7 @@ use Rattle.grounds.specs.HeldAfter.{
   accepted-line,
   accepted-other,
 }
-use Rattle.grounds.specs.Moved.{waits-nowhere, new-held}
+use Rattle.grounds.specs.Moved.{waits-nowhere, new-there, new-held}
 
 -- ---- calls elsewhere
 
@@ -104,7 +106,7 @@ held-kept c s (Outcome.joined z port id k t n o b x) i h q =
     either (λ (s′ : State). heldOf i s′ ≡ heldOf i s) (ltb (length (inLines (s .rooms))) 4)
     (λ e. lined-other i s id (Line.joined port (lineOf id s)) t (eqb-false id i (x i q))) (λ e. refl)
 held-kept c s (Outcome.left z port n o) i h q = left-held i s port ∙ out-held port (heldOf i s) (o i q)
-held-kept c s (Outcome.accepted z port next g n o e a k) i h q =
+held-kept c s (Outcome.accepted z port next g n o e a k x) i h q =
     let found = stands-found port (s .rooms) (ltb-true (standsAt port (s .rooms)) (length (s .rooms)) (g .inside)) in
     accepted-other i s port next e
     (λ same. true≢false (sym found ∙ ap (λ (j : ℕ). standsIn port (roomAt j s .line)) (sym same) ∙ o i q))
@@ -204,16 +206,29 @@ joined-turn p i s m e =
     goes-on [] turn n = absurd (n refl)
     goes-on (x ∷ l) turn n = refl
 
--- Remove, when it is done: the account isn't there, and nobody waits for it.
+-- Remove, when it is done: the account was there, and this is the table then.
+removed : (i : ℕ) (s : State) → remove i s .answer ≡ Checked.Good
+    → (isThere i s ≡ true) × (remove i s .state ≡ withRoom (placeOf i (s .rooms)) freeRoom s)
+unfolding remove
+removed i s e =
+    let found = settled-done s (withRoom (placeOf i (s .rooms)) freeRoom s) (accountThere i s) e in
+    (must-good (isThere i s) Refusal.AccountMissing (found .0), found .1)
+
+-- The account's room is free, on any table.
+pub removed-free : (i : ℕ) (s : State) → remove i s .answer ≡ Checked.Good → roomAt (placeOf i (s .rooms)) (remove i s .state) ≡ freeRoom
+removed-free i s e =
+    let at = placeOf i (s .rooms) in
+    let did = removed i s e in
+    ap (roomAt at) (did .1) ∙ getD-set-same (s .rooms) at freeRoom freeRoom (there-parts i (s .rooms) (did .0) .1)
+
+-- The account isn't there, and nobody waits for it.
 pub removed-gone : (i : ℕ) (s : State) → Made s → remove i s .answer ≡ Checked.Good
     → (isThere i (remove i s .state) ≡ false) × (lineOf i (remove i s .state) ≡ empty)
-unfolding remove
 removed-gone i s m e =
-    let found = settled-done s (withRoom (placeOf i (s .rooms)) freeRoom s) _ e in
-    let there = must-good (isThere i s) Refusal.AccountMissing (found .0) in
+    let did = removed i s e in
     let once = apart-once (s .rooms) (m .apart) in (
-      ap (isThere i) (found .1) ∙ second-fails (not (eqb i 0)) _ (gone-holds i (s .rooms) once there),
-      ap (lineOf i) (found .1) ∙ ap (λ (held : Held). held .line) (gone-free i (s .rooms) once there),
+      ap (isThere i) (did .1) ∙ second-fails (not (eqb i 0)) _ (gone-holds i (s .rooms) once (did .0)),
+      ap (lineOf i) (did .1) ∙ ap (λ (held : Held). held .line) (gone-free i (s .rooms) once (did .0)),
     )
 
 -- Every port that was in its line is in no line then: not in that one, which is empty, and not in another, since it was in one at most.
@@ -234,25 +249,47 @@ module _ (p i : ℕ) (s : State) (m : Made s) (stood : standsIn p (lineOf i s) �
       other (sym (stands-once p k (s .rooms) (m .once) there) ∙ stands-once p at (s .rooms) (m .once) stood)
 
   pub removed-out : remove i s .answer ≡ Checked.Good → waits p (remove i s .state) ≡ false
-  unfolding remove
   removed-out e =
       let next = withRoom (placeOf i (s .rooms)) freeRoom s in
       let k = standsAt p gone-rooms in
-      ap (waits p) (settled-done s next (accountThere i s) e .1)
+      ap (waits p) (removed i s e .1)
       ∙ cases (waits p next)
       (λ f. absurd (nowhere-then k (stands-found p gone-rooms (ltb-true k (length gone-rooms) f)) (ℕ-discrete k (placeOf i (s .rooms)))))
       (λ f. f)
 
--- Enrol, when it is done: the account is the new one, and nobody waits for it yet.
-pub enrolled-new : (i number count : ℕ) (seed password : List ℕ) (s : State) → Made s → enrol i number count seed password s .answer ≡ Checked.Good
-    → heldOf i (enrol i number count seed password s .state) ≡ record { account = newRoom i number count seed password; line = empty }
+-- Enrol, when it is done: what its checks found, and the table then.
+enrolled : (i number count : ℕ) (seed password : List ℕ) (s : State) → enrol i number count seed password s .answer ≡ Checked.Good
+    → (enrol i number count seed password s .state ≡ withAccount (placeOf 0 (s .rooms)) (newRoom i number count seed password) s)
+    × (i ≡ 0 → ⊥) × (isThere i s ≡ false) × (holds 0 (s .rooms) ≡ true)
 unfolding enrol
-enrolled-new i number count seed password s m e =
-    let room = newRoom i number count seed password in
-    let next = withAccount (placeOf 0 (s .rooms)) room s in
+enrolled i number count seed password s e =
+    let next = withAccount (placeOf 0 (s .rooms)) (newRoom i number count seed password) s in
     let found = settled-done s next (enrolChecked i number count seed s) e in
     let passed = enrol-passed i number count seed s (found .0) in
-    ap (heldOf i) (found .1) ∙ new-held room s m (eqb-false i 0 (not-true (eqb i 0) (passed .given))) (not-true (isThere i s) (passed .new)) (passed .room)
+    (found .1, eqb-false i 0 (not-true (eqb i 0) (passed .given)), not-true (isThere i s) (passed .new), passed .room)
+
+-- The account is the new one, on any table.
+pub enrolled-account : (i number count : ℕ) (seed password : List ℕ) (s : State) → enrol i number count seed password s .answer ≡ Checked.Good
+    → accountOf i (enrol i number count seed password s .state) ≡ newRoom i number count seed password
+enrolled-account i number count seed password s e =
+    let did = enrolled i number count seed password s e in
+    ap (accountOf i) (did .0)
+    ∙ ap (λ (held : Held). held .account) (new-there (newRoom i number count seed password) s (did .1) (did .2) (did .3))
+
+-- It is there.
+pub enrolled-there : (i number count : ℕ) (seed password : List ℕ) (s : State) → enrol i number count seed password s .answer ≡ Checked.Good
+    → isThere i (enrol i number count seed password s .state) ≡ true
+enrolled-there i number count seed password s e =
+    sym (account-there i (enrol i number count seed password s .state .rooms))
+    ∙ ap (λ (room : Room). not (eqb (room .id) 0)) (enrolled-account i number count seed password s e)
+    ∙ ap not (ne-eqb i 0 (enrolled i number count seed password s e .1))
+
+-- In tables that calls make nobody waits for it yet.
+pub enrolled-new : (i number count : ℕ) (seed password : List ℕ) (s : State) → Made s → enrol i number count seed password s .answer ≡ Checked.Good
+    → heldOf i (enrol i number count seed password s .state) ≡ record { account = newRoom i number count seed password; line = empty }
+enrolled-new i number count seed password s m e =
+    let did = enrolled i number count seed password s e in
+    ap (heldOf i) (did .0) ∙ new-held (newRoom i number count seed password) s m (did .1) (did .2) (did .3)
 
 -- Leave, when it is done: the port is out of its line; a line in which it wasn't is as it was.
 pub leave-held : (p i : ℕ) (s : State) → leave p s .answer ≡ Checked.Good
@@ -296,5 +333,5 @@ unfolding Left reply Steps.replyRead renew Steps.renewRead
 accepted-left port n c s (Presents.by-reply text) e i =
     read-left port n s (lowered (ownAccount port s)) (λ w. refl) i (turnChecked port s) (readingOf text) e
 accepted-left port n c s (Presents.by-renew number count seed new text) e i =
-    read-left port n s (λ w. newRoom (ownAccount port s .id) number count seed new) (λ w. refl) i (renewChecked port number count seed s)
+    read-left port n s (λ w. renewedRoom (ownAccount port s) number count seed new) (λ w. refl) i (renewChecked port number count seed s)
     (readingOf text) e

@@ -109,7 +109,7 @@ unshut-after c s (Outcome.joined z port id k t n o b x) h =
     either (λ (s′ : State). Each (Unshut (s′ .ports)) (inLines (s′ .rooms))) (ltb (length (inLines (s .rooms))) 4)
     (λ e. join-each (Unshut (s .ports)) port (placeOf id (s .rooms)) (s .rooms) o h) (λ e. h)
 unshut-after c s (Outcome.left z port n o) h = lines-fewer (Line.left port) (fewer-left port) (s .rooms) .each (Unshut (s .ports)) h
-unshut-after c s (Outcome.accepted z port next g n o i a k) h =
+unshut-after c s (Outcome.accepted z port next g n o i a k x) h =
     let at = standsAt port (s .rooms) in
     lines-stay (Unshut (s .ports)) (Unshut (set (s .ports) port (rightly (portOf port s)))) port
     (unshut-others (s .ports) port (rightly (portOf port s))) (inRoom next at (s .rooms))
@@ -169,7 +169,7 @@ right-after c s (Outcome.joined z port id k e n o b x) h =
     (turn-joined port (lineOf id s) (line-right at s (h .1))))
     (λ e. h)
 right-after c s (Outcome.left z port n o) h = right-lined (Line.left port) (turn-left port) (s .rooms) h
-right-after c s (Outcome.accepted z port next g n o i a k) h =
+right-after c s (Outcome.accepted z port next g n o i a k x) h =
     let at = standsAt port (s .rooms) in
     right-lined (Line.left port) (turn-left port) (inRoom next at (s .rooms))
     (right-set (s .rooms) at (record { account = next; line = roomAt at s .line }) h (λ m. a (held-good at s (h .0) (g .there))) (line-right at s (h .1)))
@@ -187,7 +187,7 @@ runs-after c s (Outcome.removed z id t n k o) h = h
 runs-after c s (Outcome.joined z port id k t n o b x) h =
     either (λ (s′ : State). Each PortGood (s′ .ports)) (ltb (length (inLines (s .rooms))) 4) (λ e. h) (λ e. h)
 runs-after c s (Outcome.left z port n o) h = h
-runs-after c s (Outcome.accepted z port next g n o i a k) h =
+runs-after c s (Outcome.accepted z port next g n o i a k x) h =
     let own = each-get PortGood (s .ports) port freshPort h (omega arith, omega arith) in
     each-set PortGood (s .ports) port (rightly (portOf port s)) h (omega arith, own .1)
 runs-after c s (Outcome.rejected z port g n o) h =
@@ -207,7 +207,7 @@ ports-after c s (Outcome.removed z id t n k o) = refl
 ports-after c s (Outcome.joined z port id k t n o b x) =
     either (λ (s′ : State). length (s′ .ports) ≡ length (s .ports)) (ltb (length (inLines (s .rooms))) 4) (λ e. refl) (λ e. refl)
 ports-after c s (Outcome.left z port n o) = refl
-ports-after c s (Outcome.accepted z port next g n o i a k) = length-set (s .ports) port (rightly (portOf port s))
+ports-after c s (Outcome.accepted z port next g n o i a k x) = length-set (s .ports) port (rightly (portOf port s))
 ports-after c s (Outcome.rejected z port g n o) = length-set (s .ports) port (wrongly (portOf port s))
 ports-after c s (Outcome.ticked z o) = length-map (s .ports) cooled
 

@@ -1,4 +1,5 @@
--- What the pages of `demands` rest on. Listed and Conditions have the words of the first demand; the rest is how the demands are proved.
+-- What the pages of `demands` rest on. Listed and Conditions have the words of the first demand, LongestWait and TenSeeds those of two examples; the
+-- rest is how the demands are proved.
 pub mod Listed
 pub mod Conditions
 pub mod Standing
@@ -27,3 +28,6 @@ pub mod WithoutAccounts
 pub mod Given
 pub mod LongestWait
 pub mod Renewing
+pub mod Remembering
+pub mod SeedsAlong
+pub mod TenSeeds

@@ -55,13 +55,17 @@ pub waits-nowhere : (port i : ℕ) (s : State) → waits port s ≡ false → st
 waits-nowhere port i s e =
     none-fewer (ofPort port) (lineOf i s .ports) (inLines (s .rooms)) (line-fewer (s .rooms) (placeOf i (s .rooms))) (sym (waits-in port s) ∙ e)
 
--- An account that comes finds an empty line, as it had while it wasn't there.
-pub new-held : (room : Room) (s : State) → Made s → (room .id ≡ 0 → ⊥) → isThere (room .id) s ≡ false → holds 0 (s .rooms) ≡ true
-    → heldOf (room .id) (withAccount (placeOf 0 (s .rooms)) room s) ≡ record { account = room; line = empty }
-new-held room s m n t f =
+-- An account that comes is found, on any table, with the line that the free room had.
+pub new-there : (room : Room) (s : State) → (room .id ≡ 0 → ⊥) → isThere (room .id) s ≡ false → holds 0 (s .rooms) ≡ true
+    → heldOf (room .id) (withAccount (placeOf 0 (s .rooms)) room s) ≡ record { account = room; line = roomAt (placeOf 0 (s .rooms)) s .line }
+new-there room s n t f =
     let absent : holds (room .id) (s .rooms) ≡ false = sym (ap (λ (b : Bool). not b && holds (room .id) (s .rooms)) (ne-eqb (room .id) 0 n)) ∙ t in
     new-found (s .rooms) (record { account = room; line = roomAt (placeOf 0 (s .rooms)) s .line }) f absent
-    ∙ ap (λ (w : Waiting). record { account = room; line = w }) (absent-line 0 s (m .idle) refl)
+
+-- In tables that calls make that line is empty, as it was while the account wasn't there.
+pub new-held : (room : Room) (s : State) → Made s → (room .id ≡ 0 → ⊥) → isThere (room .id) s ≡ false → holds 0 (s .rooms) ≡ true
+    → heldOf (room .id) (withAccount (placeOf 0 (s .rooms)) room s) ≡ record { account = room; line = empty }
+new-held room s m n t f = new-there room s n t f ∙ ap (λ (w : Waiting). record { account = room; line = w }) (absent-line 0 s (m .idle) refl)
 
 -- Every call, on a table that calls make.
 pub moved : (c : Call) (s : State) {s′ : State} → Made s → Outcome c s s′ → (i : ℕ) → (i ≡ 0 → ⊥) → Moved c i (lineOf i s) (lineOf i s′)
@@ -91,7 +95,7 @@ moved c s m (Outcome.joined z port id k t n o b x) i g =
         (Moved.come z port k (waits-nowhere port id s n) b))
     by (no d) = become c i (lineOf i s) (ap line (sym (lined-other i s id (Line.joined port (lineOf id s)) t d))) (Moved.stood z)
 moved c s m (Outcome.left z port n o) i g = become c i (lineOf i s) (ap line (sym (left-held i s port))) (Moved.gone z port n)
-moved c s m (Outcome.accepted z port next t n o e a k) i g =
+moved c s m (Outcome.accepted z port next t n o e a k x) i g =
     become c i (lineOf i s) (sym (accepted-line i s port next e)) (Moved.gone z port n)
 moved c s m (Outcome.rejected z port t n o) i g = become c i (lineOf i s) (ap line (sym (left-held i s port))) (Moved.gone z port n)
 moved c s m (Outcome.ticked z o) i g =

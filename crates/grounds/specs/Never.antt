@@ -12,10 +12,12 @@ use Rattle.refusal.specs.declared.Checked.{Checked}
 use Rattle.refusal.specs.Numbers.{listingOf}
 use Rattle.refusal.specs.Checks.{must, unless, inOrder}
 use Rattle.text.specs.Kinds.{lowerOf}
-use Rattle.text.specs.Tests.{both, same}
+use Rattle.text.specs.Tests.{both}
 use Rattle.password.specs.declared.algorithm.Named.{Named}
 use Rattle.password.specs.Algorithm.{numbered, algorithmChecked}
 use Rattle.password.specs.PhraseAndSeed.{plain, seedChecked}
+use Rattle.accounts.specs.Rooms.{remembered}
+use Rattle.accounts.specs.Accounts.{isOneOf}
 use Rattle.table.specs.Table.{State, waits, ownAccount, hasTurn}
 use Rattle.table.specs.Steps.{turnChecked, renewChecked}
 use Rattle.grounds.specs.Listed.{isIn}
@@ -50,7 +52,7 @@ turnTests port s =
 abbrev pub valuesTests : ℕ → ℕ → ℕ → List ℕ → State → List Test
 valuesTests port number count seed s =
     test (leb 2 count && leb count 9999) Refusal.CountOutside ∷ ofAlgorithm (numbered number) ∷ ofSeed seed
-    ∷ test (not (same (map lowerOf seed) (ownAccount port s .seed))) Refusal.SeedSame ∷ []
+    ∷ test (not (isOneOf (map lowerOf seed) (remembered (ownAccount port s)))) Refusal.SeedSame ∷ []
 
 module _ (numbers : List ℕ) (why : Refusal) (own : isIn (listingOf why .0) numbers ≡ true) where
   abbrev pub Never : Checked → Type 0
@@ -64,7 +66,7 @@ module _ (numbers : List ℕ) (why : Refusal) (own : isIn (listingOf why .0) num
       let same : w ≡ why = cc in
       true≢false (sym own ∙ ap (λ (x : Refusal). isIn (listingOf x .0) numbers) (sym same) ∙ not-true (isIn (listingOf w .0) numbers) h)
 
-  then-never : (check next : Checked) → Never check → Never next → Never (unless Checked.Refused check next)
+  pub then-never : (check next : Checked) → Never check → Never next → Never (unless Checked.Refused check next)
   then-never Checked.Good next h k = k
   then-never (Checked.Refused w) next h k = h
 

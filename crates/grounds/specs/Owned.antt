@@ -2,22 +2,25 @@
 use Prim.Native.Nat.{ℕ, _-_}
 use mathlib.Core.Path.{_≡_, refl, sym, ap, _∙_, subst}
 use native.Mathlib.Decide.{ℕ-discrete}
-use mathlib.Core.Bool.{true, false, true≢false}
+use mathlib.Core.Bool.{true, false, true≢false, not}
 use mathlib.Core.List.{List, [], _∷_, _++_}
 use mathlib.Core.Logic.{_⊎_, inl, inr}
 use borrow.Author.Tests.{eqb-true, eqb-false, ne-eqb, ltb-true}
 use lib.Dec.{eqb, ltb}
 use lib.ListN.{length}
-use Rattle.text.specs.Tests.{every, either, both}
+use Rattle.text.specs.Tests.{every, either, cases, both}
 use Rattle.line.specs.Line as Line
 use Rattle.line.specs.Line.{Waiting, ofPort, some, standsIn, first, frontOf, others, tickedTurn}
-use Rattle.accounts.specs.Rooms.{Room}
-use Rattle.table.specs.Table.{State, Held, placeOf, isThere, roomAt, accountOf, lineOf, inLines, standsAt, isFront, withLine}
+use Rattle.accounts.specs.Rooms.{Room, remembered}
+use Rattle.table.specs.Table.{State, Held, placeOf, isThere, roomAt, accountOf, lineOf, inLines, standsAt, ownAccount, isFront, withLine}
+use Rattle.table.specs.HeldLaws.{account-there}
 use Rattle.table.specs.Steps as Steps
 use Rattle.table.specs.Steps.{challengeFor}
 use Rattle.challenge.specs.Challenges.{challengeText}
 use Rattle.reached.specs.Calls.{Call, after, run}
-use Rattle.reached.specs.InTurn.{quiet, keepsAlgorithm, HasTurn}
+use Rattle.reached.specs.InTurn.{quiet, keepsAlgorithm, hasTurnFor, HasTurn}
+use Rattle.reached.specs.SeedsHad.{keepsAccount}
+use Rattle.reached.specs.SeedLaws.{SeedStep}
 use Rattle.reached.specs.RoomsChanged.{there-parts}
 use Rattle.reached.specs.LinesChanged.{fewer-left, fewer-ticked}
 use Rattle.reached.specs.Outcome as Outcome
@@ -46,9 +49,9 @@ account held = held .account
 
 -- What a call leaves of an account that is there: all of it, unless an accepted reply puts another in the room; on any table.
 module _ (c : Call) (s : State) (i : ℕ) (h : isThere i s ≡ true) (P : Room → Type 0) (was : P (accountOf i s))
-    (spared : (id : ℕ) → Outcome.NotFor c id → ((j : ℕ) → keepsAlgorithm j c ≡ true → eqb id j ≡ false) → id ≡ i → ⊥)
-    (put : (port : ℕ) (next : Room) → Outcome.NotBy c port → HasTurn port i s
-    → ((j : ℕ) → keepsAlgorithm j c ≡ true → next .algorithm ≡ accountOf i s .algorithm) → P next)
+    (spared : (id : ℕ) → Outcome.NotFor c id → ((j : ℕ) → keepsAccount j c ≡ true → eqb id j ≡ false) → id ≡ i → ⊥)
+    (put : (port : ℕ) (next : Room) → Outcome.NotBy c port → HasTurn port i s → next .id ≡ accountOf i s .id → Outcome.Kept c (accountOf i s) next
+    → SeedStep (accountOf i s) next → P next)
   where
     kept : {room : Room} → room ≡ accountOf i s → P room
     kept e = subst P (sym e) was
@@ -70,7 +73,7 @@ module _ (c : Call) (s : State) (i : ℕ) (h : isThere i s ≡ true) (P : Room �
             (kept (ap account (lined-own i s (Line.joined port (lineOf i s)) h)))
         by (no d) = kept (ap account (lined-other i s id (Line.joined port (lineOf id s)) t d))
     account-after (Outcome.left z port n o) = kept (ap account (left-held i s port))
-    account-after (Outcome.accepted z port next g n o e a k) = by (ℕ-discrete (placeOf i (s .rooms)) (standsAt port (s .rooms)))
+    account-after (Outcome.accepted z port next g n o e a k x) = by (ℕ-discrete (placeOf i (s .rooms)) (standsAt port (s .rooms)))
       where
         by : Dec (placeOf i (s .rooms) ≡ standsAt port (s .rooms)) → P (accountOf i (Steps.accepted port next s .state))
         by (yes own) =
@@ -78,24 +81,65 @@ module _ (c : Call) (s : State) (i : ℕ) (h : isThere i s ≡ true) (P : Room �
             (ap account
             (sym (accepted-own i s port next e (ltb-true (standsAt port (s .rooms)) (length (s .rooms)) (g .inside)) own)))
             (put port next n (ap (λ (j : ℕ). isFront port (frontOf (roomAt j s .line))) own ∙ g .front)
-            (λ j q. k j q ∙ ap (λ (m : ℕ). roomAt m s .account .algorithm) (sym own)))
+            (e ∙ ap (λ (room : Room). room .id) same) (subst (λ (old : Room). Outcome.Kept c old next) same k)
+            (subst (λ (old : Room). SeedStep old next) same x))
+          where
+            same : ownAccount port s ≡ accountOf i s
+            same = ap (λ (m : ℕ). roomAt m s .account) (sym own)
         by (no d) = kept (ap account (accepted-other i s port next e d))
     account-after (Outcome.rejected z port g n o) = kept (ap account (left-held i s port))
     account-after (Outcome.ticked z o) = kept (ap account (tick-held i s))
 
--- The algorithm, over a call that is no renewal and doesn't remove the account; on any table.
-pub call-keeps-algorithm : (s : State) (i : ℕ) → isThere i s ≡ true → (c : Call) → keepsAlgorithm i c ≡ true
-    → accountOf i (after c s) .algorithm ≡ accountOf i s .algorithm
-call-keeps-algorithm s i h c q =
-    account-after c s i h (λ (room : Room). room .algorithm ≡ accountOf i s .algorithm) refl
-    (λ id n k e. eqb-false id i (k i q) e) (λ port next n t k. k i q) (outcome c s)
+-- A call that keeps an account's algorithm keeps the account.
+algorithm-account : (i : ℕ) (c : Call) → keepsAlgorithm i c ≡ true → keepsAccount i c ≡ true
+algorithm-account i (Call.Enrol id number count seed password) q = refl
+algorithm-account i (Call.Remove id) q = q
+algorithm-account i (Call.Join port id) q = refl
+algorithm-account i (Call.Leave port) q = refl
+algorithm-account i (Call.Challenge port room) q = refl
+algorithm-account i (Call.Reply port text) q = refl
+algorithm-account i (Call.Renew port number count seed password text) q = refl
+algorithm-account i Call.Tick q = refl
+
+-- The algorithm and the remembered seeds, over a call that is no renewal and doesn't remove the account; on any table.
+pub unrenewed-keeps : (s : State) (i : ℕ) → isThere i s ≡ true → (c : Call) → keepsAlgorithm i c ≡ true
+    → (accountOf i (after c s) .algorithm ≡ accountOf i s .algorithm) × (remembered (accountOf i (after c s)) ≡ remembered (accountOf i s))
+unrenewed-keeps s i h c q =
+    account-after c s i h
+    (λ (room : Room). (room .algorithm ≡ accountOf i s .algorithm) × (remembered room ≡ remembered (accountOf i s))) (refl, refl)
+    (λ id n k e. eqb-false id i (k i (algorithm-account i c q)) e) (λ port next n t e k x. k i q) (outcome c s)
+
+-- Over a call that doesn't remove the account: it is there still, and its remembered seeds stay or step; on any table.
+pub call-steps-seeds : (s : State) (i : ℕ) → isThere i s ≡ true → (c : Call) → keepsAccount i c ≡ true
+    → (isThere i (after c s) ≡ true) × SeedStep (accountOf i s) (accountOf i (after c s))
+call-steps-seeds s i h c q =
+    let did = account-after c s i h (λ (room : Room). (room .id ≡ accountOf i s .id) × SeedStep (accountOf i s) room) (refl, SeedStep.stayed refl)
+    (λ id n k e. eqb-false id i (k i q) e) (λ port next n t e k x. (e, x)) (outcome c s) in (
+      sym (account-there i (after c s .rooms)) ∙ ap (λ (n : ℕ). not (eqb n 0)) (did .0) ∙ account-there i (s .rooms) ∙ h,
+      did .1,
+    )
+
+-- The whole account, over a renewal by a port that hasn't the turn for it; on any table.
+pub other-renewal-keeps : (p i number count : ℕ) (seed new text : List ℕ) (s : State) → isThere i s ≡ true → hasTurnFor p i s ≡ false
+    → accountOf i (Steps.renew p number count seed new text s .state) ≡ accountOf i s
+other-renewal-keeps p i number count seed new text s h f =
+    account-after renewal s i h (λ (room : Room). room ≡ accountOf i s) refl (λ id n k e. eqb-false id i (k i refl) e)
+    (λ port next n t e k x. absurd (none port n t)) (outcome renewal s)
+  where
+    renewal : Call
+    renewal = Call.Renew p number count seed new text
+
+    none : (port : ℕ) → Outcome.NotBy renewal port → HasTurn port i s → ⊥
+    none port n t =
+        cases (eqb p port) (λ e. true≢false (sym t ∙ ap (λ (q : ℕ). hasTurnFor q i s) (sym (eqb-true p port e)) ∙ f))
+        (λ e. eqb-false port port (n port i (ap not e)) refl)
 
 -- The whole account, over a quiet call in the turn.
 pub call-keeps : (p i : ℕ) (s : State) → Made s → HasTurn p i s → (c : Call) → quiet p i c ≡ true → accountOf i (after c s) ≡ accountOf i s
 call-keeps p i s m t c q =
     account-after c s i (turn-there p i s m t .0) (λ (room : Room). room ≡ accountOf i s) refl
     (λ id n k e. eqb-false id i (n p i q) e)
-    (λ port next n u k. absurd (eqb-false port p (n p i q) (turn-unique port p i s u t))) (outcome c s)
+    (λ port next n u e k x. absurd (eqb-false port p (n p i q) (turn-unique port p i s u t))) (outcome c s)
 
 -- ---- the whole turn
 

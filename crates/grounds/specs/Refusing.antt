@@ -47,8 +47,8 @@ use Rattle.challenge.specs.Challenges.{
 }
 use Rattle.cards.specs.CardChecks.{challengeChecked, countOf, cardChecked}
 use Rattle.cards.specs.Cards.{cardOf, cardWritten}
-use Rattle.accounts.specs.Rooms.{Room}
-use Rattle.accounts.specs.Accounts.{valuesChecked}
+use Rattle.accounts.specs.Rooms.{Room, remembered}
+use Rattle.accounts.specs.Accounts.{isOneOf, valuesChecked}
 use Rattle.refusal.specs.Numbers.{checkedNumbers}
 use Rattle.reached.specs.Calls.{Answer, writtenAnswer, numbers}
 use Rattle.grounds.specs.Listed.{readNumber, writtenNumber, challengeNumber}
@@ -162,8 +162,8 @@ values-rows number count seed present =
     then-test (leb 2 count && leb count 9999) _ Refusal.CountOutside _ _ refl
     (λ a. then-check (algorithmChecked (numbered number)) _ (algorithmRows number) _ (algorithm-rows number)
     (λ b. then-check (seedChecked seed) _ (seedRows seed) _ (seed-rows seed)
-    (λ c. then-test (not (same (map lowerOf seed) (present .seed))) _ Refusal.SeedSame _ _
-    (Bool·not-not (same (map lowerOf seed) (present .seed))) (λ d. no-rows Checked.Good refl))))
+    (λ c. then-test (not (isOneOf (map lowerOf seed) (remembered present))) _ Refusal.SeedSame _ _
+    (Bool·not-not (isOneOf (map lowerOf seed) (remembered present))) (λ d. no-rows Checked.Good refl))))
 
 pub values-exactly : (number count : ℕ) (seed : List ℕ) (present : Room)
     → Exactly (checkedNumbers (valuesChecked number count seed present) .0) (valuesRows number count seed present)

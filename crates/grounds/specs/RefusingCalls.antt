@@ -22,7 +22,7 @@ use Rattle.challenge.specs.Challenges.{challengeWrittenBy}
 use Rattle.reply.specs.Reply.{readingOf}
 use Rattle.port.specs.declared.Port.{Port}
 use Rattle.accounts.specs.Rooms.{Room}
-use Rattle.accounts.specs.Accounts.{lowered, newRoom, valuesChecked}
+use Rattle.accounts.specs.Accounts.{lowered, renewedRoom, valuesChecked}
 use Rattle.table.specs.declared.Replied.{Replied}
 use Rattle.table.specs.Table.{State, Held, freshPort, holds, isThere, accountOf, portOf, standsAt, waits, ownAccount, hasTurn}
 use Rattle.table.specs.TableChecks.{accountHeld}
@@ -49,7 +49,7 @@ use Rattle.grounds.specs.Refusing.{
   reply-rows,
 }
 use Rattle.grounds.specs.Keeps.{held-good, account-good, has-turn}
-use Rattle.grounds.specs.Answering.{kept-seed, seed-checked}
+use Rattle.grounds.specs.Answering.{seed-checked}
 
 -- ---- the paper's words, in such tables
 
@@ -157,8 +157,7 @@ challenge-rows port room s m =
     let good = held-good (standsAt port (s .rooms)) s (m .good) (turn-good port s e .there) in
     let most = good .count-to in
     let low : count ≤ 9999 = omega arith in
-    rw (seed-checked seed (good .seed-from) (good .seed-to) (kept-seed seed (good .seed-kept) .1), le-ltb 9999 count low)
-    (room-rows room (challengeFor port s)))
+    rw (seed-checked seed (good .seeds .0), le-ltb 9999 count low) (room-rows room (challengeFor port s)))
 
 -- What is done with the password that a text says.
 read-rows : (s : State) (r : Reading) (next : ℕ → After Replied) (rows more : List Row) → Follows (readChecked r) rows
@@ -198,7 +197,7 @@ renew-rows port number count seed new text s m =
     behind repliedChecked (replyRefused s) (λ why. refl) (renewChecked port number count seed s) _ (turnRows port s ++ values) _
     (then-check (turnChecked port s) _ (turnRows port s) values (turn-rows port s m) (λ a. values-rows number count seed (ownAccount port s)))
     (λ e. read-rows s (readingOf text) _ (replyRows text) _ (reply-rows text)
-    (offered-rows port text (newRoom (ownAccount port s .id) number count seed new) s m))
+    (offered-rows port text (renewedRoom (ownAccount port s) number count seed new) s m))
 
 -- ---- each call
 

@@ -17,6 +17,7 @@ use Rattle.password.specs.Password.{fold, foldWords, numberAfter, bytesOf, hash
 use Rattle.hex.specs.Hex.{hexOf, sixteenDigits, hexReading}
 use Rattle.reply.specs.Reply.{isWord, sixWords, readingOf}
 use Rattle.line.specs.Line.{some, others, turnWithout, left}
+use Rattle.accounts.specs.Accounts.{isOneOf}
 use Rattle.table.specs.Table.{fresh, placeOf, accountOf, inLines, standsAt}
 use Rattle.table.specs.Steps.{
   enrolChecked,
@@ -40,10 +41,17 @@ changing =
     Call.Enrol 1 1 2 (codes "lift1") (bytesOf (hash Algorithm.Md5 (bytesOf 5))) ∷ Call.Join 0 1
     ∷ Call.Renew 0 2 3 (codes "lift2") (bytesOf (hash Algorithm.Sha1 (bytesOf 6))) (hexOf 5) ∷ Call.Join 0 1 ∷ Call.Reply 0 (hexOf 6) ∷ []
 
--- Each accepted answer is the new count, and the account has SHA-1 and the last password then.
+-- Each accepted answer is the new count, and the account has SHA-1 and the last password then, and remembers both seeds.
 pub algorithm-changes : (answers changing fresh ≡ Answer.Done ∷ Answer.Done ∷ Answer.Count 3 ∷ Answer.Done ∷ Answer.Count 2 ∷ [])
-    × (accountOf 1 (run changing fresh) ≡ record { id = 1; algorithm = Algorithm.Sha1; seed = codes "lift2"; count = 2; password = 6 })
-unfolding answers run enrolChecked enrol joinChecked joins join turnChecked offered replyRead reply renewChecked renewRead renew
+    × (accountOf 1 (run changing fresh) ≡ record {
+      id = 1;
+      algorithm = Algorithm.Sha1;
+      seed = codes "lift2";
+      older = codes "lift1" ∷ [];
+      count = 2;
+      password = 6;
+    })
+unfolding answers run enrolChecked enrol joinChecked joins join turnChecked offered replyRead reply renewChecked renewRead renew isOneOf
     placeOf inLines standsAt some others turnWithout left plain every same codes readingOf sixWords isWord sixteenDigits hexReading
     parted unspaced digitsOf Digits.numberAfter hash fold foldWords numberAfter md5 registers absorbed compressed rounds
     performed operation round1 round2 round3 round4 Sha1.hashValue Sha1.compressed Sha1.schedule Sha1.longer Sha1.steps Sha1.step Sha1.stepWith

@@ -4,15 +4,17 @@ use native.Mathlib.Omega.{arith}
 use mathlib.Core.Path.{_≡_, refl, sym, ap, _∙_, subst}
 use mathlib.Core.Bool.{Bool, true, false, cond}
 use mathlib.Core.List.{List, [], _∷_, map}
-use borrow.Author.Tests.{eqb-true, eq-eqb, ne-eqb, le-leb, leb-true, lt-ltb, ltb-true}
+use borrow.Author.Tests.{eqb-true, eq-eqb, ne-eqb, le-leb, leb-true, lt-ltb, ltb-true, not-true}
 use lib.Dec.{eqb, leb}
 use lib.ListN.{length, getD, set}
 use lib.Seq.{getD-set-same}
+use Rattle.text.specs.Kinds.{lowerOf}
 use Rattle.text.specs.Tests.{both}
 use Rattle.refusal.specs.declared.Refusal.{Refusal}
 use Rattle.refusal.specs.declared.Checked.{Checked}
 use Rattle.refusal.specs.declared.Reading.{Reading}
 use Rattle.refusal.specs.Checks.{unless}
+use Rattle.refusal.specs.Laws.{must-good}
 use Rattle.password.specs.declared.algorithm.Named.{Named}
 use Rattle.password.specs.Algorithm.{numbered}
 use Rattle.password.specs.AlgorithmLaws.{checked-known}
@@ -20,10 +22,10 @@ use Rattle.password.specs.Password.{bytesOf, hash}
 use Rattle.reply.specs.Reply.{readingOf}
 use Rattle.line.specs.Line.{Waiting, left}
 use Rattle.table.specs.declared.Replied.{Replied}
-use Rattle.accounts.specs.Rooms.{Room}
+use Rattle.accounts.specs.Rooms.{Room, remembered}
 use Rattle.table.specs.Table.{State, Held, freeRoom, standsAt, waits, ownRoom, ownAccount, hasTurn, lined}
 use Rattle.table.specs.Steps as Steps
-use Rattle.accounts.specs.Accounts.{newRoom, lowered}
+use Rattle.accounts.specs.Accounts.{isOneOf, renewedRoom, lowered}
 use Rattle.table.specs.Steps.{replyRefused, turnChecked, offered, read, replyRead, reply, renewChecked, renewRead, renew}
 use Rattle.table.specs.StepLaws.{renew-passed}
 use Rattle.reached.specs.Day.{SteppedDown, Renewed, waitedFor}
@@ -104,15 +106,24 @@ taken-steps-down p n text s state r =
     let next = lowered old (r .taken) in
     let unused = r .turn .unused in
     let down : next .count + 1 ≡ old .count = omega arith in
-    subst (λ (room : Room). (n ≡ room .count) × SteppedDown old room) (sym (taken-account p n (lowered old) s text state r))
-    (r .answered, record { same-id = refl; same-algorithm = refl; same-seed = refl; count-lower = down; old-is-hash = sym (r .hashed) })
+    subst (λ (room : Room). (n ≡ room .count) × SteppedDown old room) (sym (taken-account p n (lowered old) s text state r)) (
+      r .answered,
+      record {
+        same-id = refl;
+        same-algorithm = refl;
+        same-seed = refl;
+        same-older = refl;
+        count-lower = down;
+        old-is-hash = sym (r .hashed);
+      },
+    )
 
 -- ---- a renewal
 
 module _ (p n number count : ℕ) (seed new text : List ℕ) (s : State) (e : renew p number count seed new text s .answer ≡ Replied.Accepted n) where
   -- The account that it makes, whatever was presented.
   abbrev next : ℕ → Room
-  next w = newRoom (ownAccount p s .id) number count seed new
+  next w = renewedRoom (ownAccount p s) number count seed new
 
   pub taken-renewal : Taken p n (readingOf text) next s (renew p number count seed new text s .state)
   unfolding renew renewRead
@@ -138,6 +149,7 @@ module _ (p n number count : ℕ) (seed new text : List ℕ) (s : State) (e : re
         record {
           becomes = becomes;
           known = checked-known (numbered number) (passed .algorithm) ∙ ap (λ (room : Room). Named.Is (room .algorithm)) (sym becomes);
+          other = not-true (isOneOf (map lowerOf seed) (remembered (ownAccount p s))) (must-good _ _ (passed .new));
           unused = subst (λ (room : Room). 1 < room .count) (sym becomes) (omega arith);
           presented = taken-renewal .taken;
           read = taken-renewal .said;

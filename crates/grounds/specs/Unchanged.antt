@@ -17,7 +17,7 @@ use Rattle.accounts.specs.Rooms.{Room}
 use Rattle.table.specs.Table.{State, portOf, ownAccount}
 use Rattle.table.specs.TableChecks.{accountThere}
 use Rattle.table.specs.Steps as Steps
-use Rattle.accounts.specs.Accounts.{lowered, newRoom}
+use Rattle.accounts.specs.Accounts.{lowered, renewedRoom}
 use Rattle.table.specs.Steps.{After, refused, replyRefused, done, enrolChecked, joinChecked, leaveChecked, turnChecked, renewChecked, offered, read}
 use Rattle.reached.specs.Calls.{Call, Answer, checkedAnswer, repliedAnswer, answer, after}
 use Rattle.grounds.specs.Listed.{isIn}
@@ -66,5 +66,5 @@ module _ (why : Refusal) (other : isIn (listingOf why .0) (61 ∷ 62 ∷ []) ≡
       (λ w. offered-other port w (lowered (ownAccount port s) w) s) e
   refused-unchanged (Call.Renew port number count seed new text) s e =
       replied-unchanged s (renewChecked port number count seed s) (readingOf text) _
-      (λ w. offered-other port w (newRoom (ownAccount port s .id) number count seed new) s) e
+      (λ w. offered-other port w (renewedRoom (ownAccount port s) number count seed new) s) e
   refused-unchanged Call.Tick s e = let z : _≡_ {A = ℕ} 0 1 = cc in absurd (omega arith)

@@ -21,7 +21,7 @@ use Rattle.challenge.specs.Challenges.{challengeText, challengeWrittenBy}
 use Rattle.reply.specs.Reply.{readingOf}
 use Rattle.port.specs.Port.{wrongAnswer}
 use Rattle.accounts.specs.Rooms.{Room}
-use Rattle.accounts.specs.Accounts.{lowered, newRoom}
+use Rattle.accounts.specs.Accounts.{lowered, renewedRoom}
 use Rattle.table.specs.Table.{State, holds, isThere, accountOf, portOf, waits, ownAccount}
 use Rattle.table.specs.TableChecks.{accountThere}
 use Rattle.table.specs.Steps as Steps
@@ -30,7 +30,7 @@ use Rattle.reached.specs.Calls.{Call, Answer, checkedAnswer, repliedAnswer, wri
 use Rattle.reached.specs.Day.{Presents, WrongReply}
 use Rattle.grounds.specs.Listed.{isIn, readNumber}
 use Rattle.grounds.specs.Conditions.{Row, FirstHolds, replyRows}
-use Rattle.grounds.specs.Exactly.{first-at-most}
+use Rattle.grounds.specs.Exactly.{first-at-most, number-bounds}
 use Rattle.grounds.specs.Refusing.{reply-exactly}
 use Rattle.grounds.specs.Never.{
   Test,
@@ -52,6 +52,12 @@ to-33 : (text : List ℕ) (n : ℕ) → FirstHolds n (replyRows text) → n ≤ 
 unfolding every
 to-33 text n first =
     first-at-most 33 n (first .before) (first .after) (subst (λ (rows : List Row). every (λ (row : Row). leb (row .0) 33) rows ≡ true) (first .parted) refl)
+
+-- What a text is refused with by its reader is 33 at most.
+pub reading-to-33 : (text : List ℕ) (why : Refusal) → readingOf text ≡ Reading.Refused why → listingOf why .0 ≤ 33
+reading-to-33 text why e =
+    let some = number-bounds why .0 in
+    to-33 text (listingOf why .0) (reply-exactly text .refused (listingOf why .0) (λ z. omega arith) .0 (ap readNumber e))
 
 from-61 : (n : ℕ) → isIn n (61 ∷ 62 ∷ []) ≡ true → 61 ≤ n
 from-61 n h = go (eqb n 61) (eqb n 62) refl refl h
@@ -77,10 +83,7 @@ module _ (why : Refusal) (wrong : isIn (listingOf why .0) (61 ∷ 62 ∷ []) ≡
   renew-other port number count seed s = renew-never (61 ∷ 62 ∷ []) why wrong port number count seed s refl refl
 
   reading-other : (text : List ℕ) → readingOf text ≡ Reading.Refused why → ⊥
-  reading-other text e =
-      let some = from-61 (listingOf why .0) wrong in
-      let first = reply-exactly text .refused (listingOf why .0) (λ z. omega arith) .0 (ap readNumber e) in
-      omega (arith, some, to-33 text (listingOf why .0) first)
+  reading-other text e = omega (arith, from-61 (listingOf why .0) wrong, reading-to-33 text why e)
 
   settled-other : (s s′ : State) (check : Checked) → Other check → checkedAnswer (unless (refused s) check (done s′) .answer) ≡ Answer.Refused why → ⊥
   settled-other s s′ Checked.Good n e = let z : _≡_ {A = ℕ} 0 1 = cc in omega arith
@@ -164,5 +167,5 @@ module _ (why : Refusal) (wrong : isIn (listingOf why .0) (61 ∷ 62 ∷ []) ≡
   wrong-reply (Call.Renew port number count seed new text) s e =
       wrong-at port _ s (Presents.by-renew number count seed new text)
       (replied-wrong port s (renewChecked port number count seed s) (renew-other port number count seed s) text
-      (λ w. newRoom (ownAccount port s .id) number count seed new) e)
+      (λ w. renewedRoom (ownAccount port s) number count seed new) e)
   wrong-reply Call.Tick s e = let z : _≡_ {A = ℕ} 0 1 = cc in absurd (omega arith)

@@ -1,11 +1,13 @@
 // The calls that keep accounts: Enrol and Remove.
+ghost use Prim.Native.Nat.{ℕ};
 ghost use mathlib.Core.Path.{_≡_};
+ghost use mathlib.Core.List.{List};
 ghost use Rattle.refusal.specs.Checks.{inOrder};
 ghost use Rattle.table.specs.Table.{view};
 ghost use Rattle.table.specs.Steps as steps;
 ghost use Rattle.login.specs.Inside.{enrolFound, there};
 use accounts::FREE;
-use accounts::values::propose;
+use accounts::values::enrolment;
 use refusal::Checked;
 use refusal::Refusal;
 use table::Settled;
@@ -40,11 +42,12 @@ pub fn enrol(
     seed: &[u8],
     password: &[u8; 8],
 ) -> Settled
-    ensures { λ r. ⌜ steps.settled r ≡ steps.enrol id algorithm count (now (seed .entry)) (now (password .entry)) (view table) ⌝ }
+    ensures { λ r. ⌜ ((older : List ℕ) → steps.settled r older
+        ≡ steps.enrol id algorithm count (now (seed .entry)) (now (password .entry)) (view table older)) ⌝ }
 {
     let place = place_of(table, id);
     let room = place_of(table, 0);
-    let next = propose(FREE, id, algorithm, count, seed, password);
+    let next = enrolment(id, algorithm, count, seed, password);
     let values = next.checked;
     let answer = check_enrol(id, values, place, room);
     if let Checked::Refused(_) = answer {
@@ -68,7 +71,7 @@ fn check_remove(id: u16, place: usize) -> Checked
 }
 
 pub fn remove(table: Table, id: u16) -> Settled
-    ensures { λ r. ⌜ steps.settled r ≡ steps.remove id (view table) ⌝ }
+    ensures { λ r. ⌜ ((older : List ℕ) → steps.settled r older ≡ steps.remove id (view table older)) ⌝ }
 {
     let place = place_of(table, id);
     let answer = check_remove(id, place);

@@ -1,5 +1,7 @@
 // The call of a port that joins an account's line.
+ghost use Prim.Native.Nat.{ℕ};
 ghost use mathlib.Core.Path.{_≡_};
+ghost use mathlib.Core.List.{List};
 ghost use lib.Dec.{eqb};
 ghost use lib.ListN.{getD};
 ghost use Rattle.refusal.specs.Checks.{inOrder};
@@ -53,7 +55,7 @@ fn join_answer(known: bool, there: bool, out: bool, unshut: bool, unused: bool) 
 
 // The account is what was found where its id was looked up: a free room where it isn't there.
 fn check_join(table: Table, port: u8, account: Account) -> Checked
-    ensures { λ r. ⌜ r ≡ inOrder (joinFound port (roomOf account) (view table)) ⌝ }
+    ensures { λ r. ⌜ ((older part : List ℕ) → r ≡ inOrder (joinFound port (roomOf account part) (view table older))) ⌝ }
 {
     let lines = table.lines;
     let inside = has(lines, port);
@@ -69,7 +71,7 @@ fn check_join(table: Table, port: u8, account: Account) -> Checked
 }
 
 pub fn join(mut table: Table, port: u8, id: u16) -> Settled
-    ensures { λ r. ⌜ steps.settled r ≡ steps.join port id (view table) ⌝ }
+    ensures { λ r. ⌜ ((older : List ℕ) → steps.settled r older ≡ steps.join port id (view table older)) ⌝ }
 {
     let place = place_of(table, id);
     let answer = check_join(table, port, account_at(table, place));

@@ -1,6 +1,7 @@
 // A tick of the controller.
+ghost use Prim.Native.Nat.{ℕ};
 ghost use mathlib.Core.Path.{_≡_};
-ghost use mathlib.Core.List.{map};
+ghost use mathlib.Core.List.{List, map};
 ghost use Rattle.port.specs.Port.{cooled};
 ghost use Rattle.table.specs.Table.{view};
 ghost use Rattle.table.specs.Steps as steps;
@@ -21,7 +22,7 @@ fn ticked(ports: [Port; 4]) -> [Port; 4]
 }
 
 pub fn tick(mut table: Table) -> Table
-    ensures { λ r. ⌜ view r ≡ steps.tick (view table) ⌝ }
+    ensures { λ r. ⌜ ((older : List ℕ) → view r older ≡ steps.tick (view table older)) ⌝ }
 {
     let own = table.ports;
     let ports = ticked(own);

@@ -1,5 +1,6 @@
 // Repeats one call of the login table, for the benchmark: the call's letter, 0, 1 or 3 for 0, 1 or 32 accounts, and how many thousand times.
-// Prints what the last table has: ports in line, the turns of the first of them and of the fourth, port 0's wrong run, port 3's shut ticks.
+// Prints what the last table has: ports in line, the turns of the first of them and of the fourth, port 0's wrong run, port 3's shut ticks; in place
+// of those after a renewal how long the seed is that the account remembers behind its present one.
 use generator::chain::step;
 use generator::generate;
 use libc::STDIN_FILENO;
@@ -11,6 +12,9 @@ use password::eight_bytes::bytes_of;
 use refusal::Reading;
 use table::Table;
 use table::fresh;
+use table::held::account_at;
+use table::held::place_of;
+use table::held::put;
 use text::counts::Counted;
 
 // A call with a capital letter is the one of the small letter on accounts that have SHA-1.
@@ -83,6 +87,24 @@ fn others_join(table: Table, id: u16) -> Table {
     login::join(second, 3, id).table
 }
 
+// Port 0 waits for that account, in front of the others.
+fn all_join(table: Table, id: u16) -> Table {
+    let front = login::join(table, 0, id).table;
+    others_join(front, id)
+}
+
+// That account has eight seeds. The present one differs from the new one in the last character; a renewal makes it the newest of the older ones, so
+// after seven repetitions, which all start from this account, the older ones are like it, and the new one is compared to the end with each.
+fn with_eight(table: Table, id: u16) -> Table {
+    let place = place_of(table, id);
+    let mut account = account_at(table, place);
+    let seed = *b"dog2dog2dog2dog1";
+    account.seed = seed;
+    account.len = 16;
+    account.older_count = 7;
+    put(table, place, account)
+}
+
 // Of 32 accounts the last four have a port in line each.
 fn four_lines(table: Table) -> Table {
     let first = login::join(table, 0, 32).table;
@@ -105,7 +127,8 @@ fn shut(table: Table, port: u8, id: u16) -> Table {
 }
 
 // The table that a call finds: port 0 in front of three others; for Join without port 0; for the ticks of the letter u with the three shut; for
-// those of the letter f, and for leaving by the letter m, each port in a line of its own, in the latter since a tick.
+// those of the letter f, and for leaving by the letter m, each port in a line of its own, in the latter since a tick; for renewing by the letter o
+// the account remembers eight seeds.
 fn prepared(call: u8, table: Table, id: u16) -> Table {
     match call {
         b'e' | b'i' => table,
@@ -118,10 +141,8 @@ fn prepared(call: u8, table: Table, id: u16) -> Table {
             let three = shut(two, 3, id);
             login::join(three, 0, id).table
         }
-        _ => {
-            let front = login::join(table, 0, id).table;
-            others_join(front, id)
-        }
+        b'o' => all_join(with_eight(table, id), id),
+        _ => all_join(table, id),
     }
 }
 
@@ -129,19 +150,35 @@ fn is_tick(call: u8) -> bool {
     (call == b'i') | (call == b't') | (call == b'f') | (call == b'u')
 }
 
-fn once(call: u8, table: Table, port: u8, id: u16) -> Table {
+fn is_renewal(call: u8) -> bool {
+    (call == b'n') | (call == b'o')
+}
+
+// Each call stands here itself: behind a function of the meter's own the compiler would copy the table once more, in other calls too.
+fn once(call: u8, table: Table, older: &mut [u8; 3808], port: u8, id: u16) -> Table {
     let stored = [7u8; 8];
+    let text = b"85C4 3EE0 3857 765B";
     match call {
         b'e' => login::enrol(table, 1000, 1, 99, b"AValidSeed", &stored).table,
         b'r' => login::remove(table, id).table,
         b'j' => login::join(table, port, id).table,
         b'l' | b'm' => login::leave(table, port).table,
         b'c' => challenged(table, port),
-        b'h' => login::reply(table, port, b"85C4 3EE0 3857 765B").table,
+        b'h' => login::reply(table, port, text).table,
         b'w' => login::reply(table, port, b"FOWL KID MASH DEAD DUAL OAF").table,
         b'H' => login::reply(table, port, b"C891 F389 B68D E9EC").table,
         b'W' => login::reply(table, port, b"ONCE GRAB SOOT CUBE SLAY WAIT").table,
-        b'n' => login::renew(table, port, 1, 99, b"dog2", &stored, b"85C4 3EE0 3857 765B").table,
+        b'n' => login::renew(table, older, port, 1, 99, b"dog2", &stored, text).table,
+        b'o' => login::renew(
+            table,
+            older,
+            port,
+            1,
+            99,
+            b"dog2dog2dog2dog2",
+            &stored,
+            text,
+        ).table,
         b'i' | b't' | b'f' | b'u' => login::tick(table),
         _ => table,
     }
@@ -149,14 +186,14 @@ fn once(call: u8, table: Table, port: u8, id: u16) -> Table {
 
 // Each repetition's port comes from the table before it (0: four wait at most, and a challenge starts with the letter o), so that none can be left out.
 // Ticks go on from the table before: the 60 of a turn, in the last of which the front leaves, and then those of the same turn again.
-fn repeat(call: u8, start: Table, id: u16, times: u64) -> Table {
+fn repeat(call: u8, start: Table, older: &mut [u8; 3808], id: u16, times: u64) -> Table {
     let ticks = is_tick(call);
     let mut last = start;
     let mut k = 0;
     while k < times {
         let port = if last.lines.len < 200 { 0 } else { 1 };
         let from = if ticks & (k % 60 != 0) { last } else { start };
-        last = once(call, from, port, id);
+        last = once(call, from, older, port, id);
         k += 1;
     }
     last
@@ -178,11 +215,21 @@ fn print_number(n: u64, after: &[u8]) {
     io::write_all(STDOUT_FILENO, after);
 }
 
+// How long the newest of the older seeds is, in the room of the last account; 0 where there is none.
+fn newest_len(older: &[u8; 3808], accounts: u16) -> u8 {
+    match accounts {
+        1 => older[0],
+        32 => older[31 * 119],
+        _ => 0,
+    }
+}
+
 // What is repeated: with how many accounts, the ports in line for the last of them, or for the last four.
 fn measure(call: u8, accounts: u16, times: u64) {
     let algorithm = number_of(algorithm_of(call));
     let start = prepared(call, table_of(algorithm, accounts), accounts);
-    let last = repeat(call, start, accounts, times);
+    let mut older = [0u8; 3808];
+    let last = repeat(call, start, &mut older, accounts, times);
     let ports = last.ports;
     let first = ports[0];
     let fourth = ports[3];
@@ -191,7 +238,12 @@ fn measure(call: u8, accounts: u16, times: u64) {
     print_number(turn_in(lines, 0) as u64, b" ");
     print_number(turn_in(lines, 3) as u64, b" ");
     print_number(first.wrong as u64, b" ");
-    print_number(fourth.shut as u64, b"\n");
+    let shut_or_seed = if is_renewal(call) {
+        newest_len(&older, accounts) as u64
+    } else {
+        fourth.shut as u64
+    };
+    print_number(shut_or_seed, b"\n");
 }
 
 fn main() {

@@ -2,11 +2,13 @@
 -- and a wrong reply.
 use Prim.Native.Nat.{ℕ, _+_, _<_}
 use mathlib.Core.Path.{_≡_}
-use mathlib.Core.List.{List}
+use mathlib.Core.Bool.{false}
+use mathlib.Core.List.{List, map}
 use lib.ListN.{length, take}
 use Rattle.refusal.specs.declared.Refusal.{Refusal}
 use Rattle.refusal.specs.declared.Reading.{Reading}
 use Rattle.refusal.specs.declared.Written.{Written}
+use Rattle.text.specs.Kinds.{lowerOf}
 use Rattle.text.specs.Put.{leaves}
 use Rattle.password.specs.declared.algorithm.Algorithm.{Algorithm}
 use Rattle.password.specs.declared.algorithm.Named.{Named}
@@ -19,28 +21,30 @@ use Rattle.reply.specs.Reply.{readingOf}
 use Rattle.sixwords.specs.Spelling.{wordsOf}
 use Rattle.port.specs.Port.{wrongly, wrongAnswer}
 use Rattle.table.specs.declared.Replied.{Replied}
-use Rattle.accounts.specs.Rooms.{Room}
-use Rattle.accounts.specs.Accounts.{newRoom}
+use Rattle.accounts.specs.Rooms.{Room, remembered}
+use Rattle.accounts.specs.Accounts.{isOneOf, renewedRoom}
 use Rattle.table.specs.Table.{State, roomAt, accountOf, portOf, standsAt, withPort}
 use Rattle.table.specs.Steps as steps
 use Rattle.table.specs.Steps.{challengeFor, challenge, reply}
 use Rattle.reached.specs.Calls.{Call, after}
 
--- The account after an accepted reply, beside the one before: the same id, algorithm and seed, the count lower by 1, and the password
--- whose hash is the one that was stored.
+-- The account after an accepted reply, beside the one before: the same id, algorithm, seed and older seeds, the count lower by 1, and the
+-- password whose hash is the one that was stored.
 pub record SteppedDown (old new : Room) : Type 0 where
   pub same-id : new .id ≡ old .id
   pub same-algorithm : new .algorithm ≡ old .algorithm
   pub same-seed : new .seed ≡ old .seed
+  pub same-older : new .older ≡ old .older
   pub count-lower : new .count + 1 ≡ old .count
   pub old-is-hash : old .password ≡ hash (old .algorithm) (bytesOf (new .password))
 
 -- The account after an accepted renewal with this text, beside the one before: the same id, with the algorithm of that number, the new count,
--- which isn't used up, the new seed and password. What the text was read as has the stored password as its hash, by the algorithm that the
--- account had.
+-- which isn't used up, the new seed and password. R-5: the seed is none of those that were remembered, and the first seven of these are the
+-- older ones then. What the text was read as has the stored password as its hash, by the algorithm that the account had.
 pub record Renewed (number count : ℕ) (seed new text : List ℕ) (old room : Room) : Type 0 where
-  pub becomes : room ≡ newRoom (old .id) number count seed new
+  pub becomes : room ≡ renewedRoom old number count seed new
   pub known : numbered number ≡ Named.Is (room .algorithm)
+  pub other : isOneOf (map lowerOf seed) (remembered old) ≡ false
   pub unused : 1 < room .count
   pub presented : ℕ
   pub read : readingOf text ≡ Reading.Password presented
@@ -55,13 +59,14 @@ abbrev pub passwordOf : List ℕ → Room → ℕ → ℕ
 passwordOf phrase room count = password (room .algorithm) phrase (room .seed) count
 
 -- The port's reply with this text is accepted: the answer is that count, and the account i has it then, with that password and its
--- algorithm and seed as before.
+-- algorithm and seeds as before.
 pub record Accepts (p i : ℕ) (text : List ℕ) (count new : ℕ) (s : State) : Type 0 where
   pub answered : reply p text s .answer ≡ Replied.Accepted count
   pub kept : accountOf i (reply p text s .state) ≡ record {
     id = i;
     algorithm = accountOf i s .algorithm;
     seed = accountOf i s .seed;
+    older = accountOf i s .older;
     count = count;
     password = new;
   }

@@ -28,7 +28,7 @@ use Rattle.port.specs.declared.Port.{Port}
 use Rattle.port.specs.Port.{wrongAnswer}
 use Rattle.table.specs.declared.Replied.{Replied}
 use Rattle.accounts.specs.Rooms.{Room}
-use Rattle.accounts.specs.Accounts.{countWithin, newRoom, lowered, seedOther}
+use Rattle.accounts.specs.Accounts.{countWithin, newRoom, renewedRoom, lowered, seedOther}
 use Rattle.table.specs.Table.{
   State,
   Held,
@@ -389,7 +389,7 @@ module _ (P : List Port) (l m : List Held) (h : SameAccounts l m) (a : Housed (t
   unfolding steps.renew steps.renewRead
   renew-alike port number count seed new text =
       checked-alike Replied.Refused _ _ (renew-check port number count seed) _ _
-      (λ e. read-alike port text (λ room password. newRoom (room .id) number count seed new)
+      (λ e. read-alike port text (λ room password. renewedRoom room number count seed new)
       (turn-good port s (renew-passed port number count seed s e .turn)) (λ room password. refl))
 
   pub remove-alike : (id : ℕ) → Alike (steps.remove id s) (steps.remove id t)

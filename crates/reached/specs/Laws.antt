@@ -124,7 +124,7 @@ housed-outcome call s (Outcome.joined z port id k t n o b x) h = by (ltb (length
         (join-once port (placeOf id (s .rooms)) (s .rooms) out (h .single))
         (join-each (λ (port : ℕ). port ≤ 3) port (placeOf id (s .rooms)) (s .rooms) k (h .known))
 housed-outcome call s (Outcome.left z port n o) h = housed-leaves port s (s .ports) h
-housed-outcome call s (Outcome.accepted z port next g n o i a k) h =
+housed-outcome call s (Outcome.accepted z port next g n o i a k x) h =
     let at = standsAt port (s .rooms) in
     housed-leaves port _ _
     (housed-set s at (record { account = next; line = roomAt at s .line }) (s .ports) h (ltb-true at (length (s .rooms)) (g .inside))

@@ -8,7 +8,8 @@ use Rattle.text.specs.Kinds.{isLower, isDigit}
 use Rattle.text.specs.Tests.{every}
 use Rattle.line.specs.Line.{Waiting, empty, ofPort, some}
 use Rattle.port.specs.declared.Port.{Port}
-use Rattle.accounts.specs.Rooms.{Room}
+use Rattle.accounts.specs.Rooms.{Room, remembered}
+use Rattle.accounts.specs.Accounts.{isOneOf}
 use Rattle.table.specs.Table.{State, Held, portOf, inLines}
 use Rattle.refusal.specs.Each.{Each}
 
@@ -36,13 +37,24 @@ pub record Standing (w : Waiting) : Type 0 where
 abbrev pub isKept : ℕ → Bool
 isKept b = isLower b || isDigit b
 
--- What an account is in tables that calls make.
+-- A seed as it is kept.
+pub record SeedGood (seed : List ℕ) : Type 0 where
+  pub from : 1 ≤ length seed
+  pub to : length seed ≤ 16
+  pub kept : every isKept seed ≡ true
+
+-- No seed stands among these twice.
+abbrev pub Different : List (List ℕ) → Type 0
+Different [] = Unit {0}
+Different (seed ∷ seeds) = (isOneOf seed seeds ≡ false) × Different seeds
+
+-- What an account is in tables that calls make. R-5: it remembers "its last eight seeds, the present one included", which are different.
 pub record AccountGood (room : Room) : Type 0 where
   pub count-from : 1 ≤ room .count
   pub count-to : room .count ≤ 9999
-  pub seed-from : 1 ≤ length (room .seed)
-  pub seed-to : length (room .seed) ≤ 16
-  pub seed-kept : every isKept (room .seed) ≡ true
+  pub few : length (remembered room) ≤ 8
+  pub seeds : Each SeedGood (remembered room)
+  pub different : Different (remembered room)
 
 -- Rooms in use have different ids.
 abbrev pub Apart : List Held → Type 0
@@ -64,8 +76,9 @@ abbrev pub PortGood : Port → Type 0
 PortGood port = (port .wrong ≤ 2) × (port .shut ≤ 900)
 
 -- The lines: in all of them together no port over 3, none twice and none that is shut; each with 1 to 60 ticks left, 0 where it is empty;
--- nobody waits for an account that isn't there. The rooms: 32, those in use with different ids, each with a count of 1 to 9,999 and a seed of
--- 1 to 16 lower-case letters and digits. The ports: four, each with 0 to 2 wrong replies in a row and 0 to 900 shut ticks.
+-- nobody waits for an account that isn't there. The rooms: 32, those in use with different ids, each with a count of 1 to 9,999 and one to
+-- eight remembered seeds, the present one first, all different, each of 1 to 16 lower-case letters and digits. The ports: four, each with 0
+-- to 2 wrong replies in a row and 0 to 900 shut ticks.
 pub record Made (s : State) : Type 0 where
   pub known : Each (λ (port : ℕ). port ≤ 3) (inLines (s .rooms))
   pub once : Once (inLines (s .rooms))

@@ -6,7 +6,7 @@ use mathlib.Core.Bool.{Bool, true, false, false≢true, cond, _&&_, _||_}
 use mathlib.Core.List.{List, [], _∷_, map}
 use borrow.Author.Tests.{eqb-true, eqb-false, ltb-true, leb-true, le-leb, not-true}
 use lib.Dec.{eqb, leb}
-use lib.ListN.{length-map}
+use lib.ListN.{length, take, length-map, length-take}
 use Rattle.refusal.specs.declared.Refusal.{Refusal}
 use Rattle.refusal.specs.declared.Checked.{Checked}
 use Rattle.refusal.specs.declared.Reading.{Reading}
@@ -18,16 +18,19 @@ use Rattle.password.specs.PhraseAndSeedLaws.{good-seed}
 use Rattle.password.specs.Password.{hash, bytesOf}
 use Rattle.reply.specs.Reply.{readingOf}
 use Rattle.line.specs.Line.{standsIn}
-use Rattle.accounts.specs.Rooms.{Room}
+use Rattle.refusal.specs.Each.{Each}
+use Rattle.accounts.specs.Rooms.{Room, remembered}
 use Rattle.table.specs.declared.Replied.{Replied}
 use Rattle.table.specs.Table.{State, freeRoom, placeOf, holds, isThere, lineOf, portOf, waits, ownAccount, hasTurn, withRoom, withAccount}
-use Rattle.accounts.specs.Accounts.{newRoom, lowered}
+use Rattle.accounts.specs.Accounts.{withValues, newRoom, renewedRoom, lowered, isOneOf}
 use Rattle.table.specs.TableChecks.{accountThere}
 use Rattle.table.specs.Steps as Steps
 use Rattle.table.specs.Steps.{After, enrolChecked, joinChecked, leaveChecked, turnChecked, renewChecked, offered, read}
 use Rattle.reached.specs.Calls.{Call, after}
 use Rattle.reached.specs.InTurn.{tickOf, quiet, keepsAlgorithm, elsewhere}
-use Rattle.reached.specs.Made.{isKept, AccountGood}
+use Rattle.reached.specs.Made.{isKept, SeedGood, Different, AccountGood}
+use Rattle.reached.specs.SeedsHad.{keepsAccount}
+use Rattle.reached.specs.SeedLaws.{SeedStep, none-take, different-take, each-take}
 use Rattle.refusal.specs.Laws.{must-good}
 use Rattle.table.specs.StepLaws.{enrol-passed, join-passed, turn-passed, renew-passed}
 
@@ -53,18 +56,21 @@ Outside c s port = (i : ℕ) → elsewhere i s c ≡ true → standsIn port (lin
 abbrev pub Another : Call → State → ℕ → Type 0
 Another c s id = (i : ℕ) → elsewhere i s c ≡ true → eqb id i ≡ false
 
+-- If the call is no renewal, the account keeps its algorithm and the seeds that it remembers.
+abbrev pub Kept : Call → Room → Room → Type 0
+Kept c old next = (i : ℕ) → keepsAlgorithm i c ≡ true → (next .algorithm ≡ old .algorithm) × (remembered next ≡ remembered old)
+
 pub data Outcome (c : Call) (s : State) : State → Type 0 where
   nothing : tickOf c ≡ 0 → Outcome c s s
   enrolled : tickOf c ≡ 0 → (room : Room) → AccountGood room → (room .id ≡ 0 → ⊥) → isThere (room .id) s ≡ false
       → holds 0 (s .rooms) ≡ true → Outcome c s (withAccount (placeOf 0 (s .rooms)) room s)
-  removed : tickOf c ≡ 0 → (id : ℕ) → isThere id s ≡ true → NotFor c id → ((i : ℕ) → keepsAlgorithm i c ≡ true → eqb id i ≡ false)
+  removed : tickOf c ≡ 0 → (id : ℕ) → isThere id s ≡ true → NotFor c id → ((i : ℕ) → keepsAccount i c ≡ true → eqb id i ≡ false)
       → Another c s id → Outcome c s (withRoom (placeOf id (s .rooms)) freeRoom s)
   joined : tickOf c ≡ 0 → (port id : ℕ) → port ≤ 3 → isThere id s ≡ true → waits port s ≡ false
       → portOf port s .shut ≡ 0 → NotBy c port → Another c s id → Outcome c s (Steps.joins port id s)
   left : tickOf c ≡ 0 → (port : ℕ) → NotBy c port → Outside c s port → Outcome c s (Steps.leaves port s)
   accepted : tickOf c ≡ 0 → (port : ℕ) (next : Room) → TurnGood port s → NotBy c port → Outside c s port → next .id ≡ ownAccount port s .id
-      → (AccountGood (ownAccount port s) → AccountGood next)
-      → ((i : ℕ) → keepsAlgorithm i c ≡ true → next .algorithm ≡ ownAccount port s .algorithm)
+      → (AccountGood (ownAccount port s) → AccountGood next) → Kept c (ownAccount port s) next → SeedStep (ownAccount port s) next
       → Outcome c s (Steps.accepted port next s .state)
   rejected : tickOf c ≡ 0 → (port : ℕ) → TurnGood port s → NotBy c port → Outside c s port → Outcome c s (Steps.rejected port s .state)
   ticked : tickOf c ≡ 1 → ((i : ℕ) → elsewhere i s c ≡ false) → Outcome c s (Steps.tick s)
@@ -89,20 +95,41 @@ seed-lower (b ∷ s) e =
     let halves = both (isLetter b || isDigit b) (plain s) e in
     rw (kept-lower b (halves .0)) (seed-lower s (halves .1))
 
--- What Enrol and Renew store is good.
-new-good : (id number count : ℕ) (seed password : List ℕ) → (leb 2 count && leb count 9999) ≡ true → seedChecked seed ≡ Checked.Good
-    → AccountGood (newRoom id number count seed password)
-new-good id number count seed password e f =
+-- A seed that the checks found good is kept as a good one.
+seed-good : (seed : List ℕ) → seedChecked seed ≡ Checked.Good → SeedGood (map lowerOf seed)
+seed-good seed e =
+    let good = good-seed seed e in
+    record { from = rw length-map (good .0); to = rw length-map (good .1); kept = seed-lower seed (good .2) }
+
+-- What Enrol and Renew store is good, if the older seeds are seven at most, good and different, and none of them is the new one.
+values-good : (id : ℕ) (older : List (List ℕ)) (number count : ℕ) (seed password : List ℕ) → (leb 2 count && leb count 9999) ≡ true
+    → seedChecked seed ≡ Checked.Good → length older ≤ 7 → Each SeedGood older → isOneOf (map lowerOf seed) older ≡ false → Different older
+    → AccountGood (withValues id older number count seed password)
+values-good id older number count seed password e f few good new different =
     let counts = both (leb 2 count) (leb count 9999) e in
     let from = leb-true 2 count (counts .0) in
-    let good = good-seed seed f in
     record {
       count-from = omega arith;
       count-to = leb-true count 9999 (counts .1);
-      seed-from = rw length-map (good .0);
-      seed-to = rw length-map (good .1);
-      seed-kept = seed-lower seed (good .2);
+      few = omega arith;
+      seeds = (seed-good seed f, good);
+      different = (new, different);
     }
+
+-- Enrol: there are no older seeds.
+new-good : (id number count : ℕ) (seed password : List ℕ) → (leb 2 count && leb count 9999) ≡ true → seedChecked seed ≡ Checked.Good
+    → AccountGood (newRoom id number count seed password)
+unfolding isOneOf
+new-good id number count seed password e f = values-good id [] number count seed password e f (omega arith) tt refl tt
+
+-- Renew: they are the first seven of those that the account remembered.
+renewed-good : (old : Room) (number count : ℕ) (seed password : List ℕ) → (leb 2 count && leb count 9999) ≡ true
+    → seedChecked seed ≡ Checked.Good → isOneOf (map lowerOf seed) (remembered old) ≡ false → AccountGood old
+    → AccountGood (renewedRoom old number count seed password)
+renewed-good old number count seed password e f new good =
+    values-good (old .id) (take 7 (remembered old)) number count seed password e f (omega (arith, length-take 7 (remembered old)))
+    (each-take SeedGood 7 (remembered old) (good .seeds)) (none-take (map lowerOf seed) 7 (remembered old) new)
+    (different-take 7 (remembered old) (good .different))
 
 -- ---- each call's outcome
 
@@ -165,27 +192,26 @@ turn-good port s e =
 
 offered-outcome : (c : Call) (port password : ℕ) (next : Room) (s : State) → tickOf c ≡ 0 → TurnGood port s → NotBy c port → Outside c s port
     → next .id ≡ ownAccount port s .id → (AccountGood (ownAccount port s) → AccountGood next)
-    → ((i : ℕ) → keepsAlgorithm i c ≡ true → next .algorithm ≡ ownAccount port s .algorithm)
-    → Outcome c s (offered port password next s .state)
+    → Kept c (ownAccount port s) next → SeedStep (ownAccount port s) next → Outcome c s (offered port password next s .state)
 unfolding offered
-offered-outcome c port password next s z g n o i a k =
+offered-outcome c port password next s z g n o i a k x =
     go (eqb (hash (ownAccount port s .algorithm) (bytesOf password)) (ownAccount port s .password))
   where
     go : (t : Bool) → Outcome c s (cond t (Steps.accepted port next s) (Steps.rejected port s) .state)
-    go true = Outcome.accepted z port next g n o i a k
+    go true = Outcome.accepted z port next g n o i a k x
     go false = Outcome.rejected z port g n o
 
 -- What is done with a text: nothing where it is refused, else the password is offered.
 read-outcome : (c : Call) (port : ℕ) (text : List ℕ) (next : ℕ → Room) (s : State) → tickOf c ≡ 0 → TurnGood port s → NotBy c port → Outside c s port
     → ((password : ℕ) → next password .id ≡ ownAccount port s .id)
     → ((password : ℕ) → AccountGood (ownAccount port s) → AccountGood (next password))
-    → ((password i : ℕ) → keepsAlgorithm i c ≡ true → next password .algorithm ≡ ownAccount port s .algorithm)
+    → ((password : ℕ) → Kept c (ownAccount port s) (next password)) → ((password : ℕ) → SeedStep (ownAccount port s) (next password))
     → Outcome c s (read s (readingOf text) (λ password. offered port password (next password) s) .state)
-read-outcome c port text next s z g n o i a k = go (readingOf text)
+read-outcome c port text next s z g n o i a k x = go (readingOf text)
   where
     go : (r : Reading) → Outcome c s (read s r (λ password. offered port password (next password) s) .state)
     go (Reading.Password password) =
-        offered-outcome c port password (next password) s z g n o (i password) (a password) (k password)
+        offered-outcome c port password (next password) s z g n o (i password) (a password) (k password) (x password)
     go (Reading.Refused why) = Outcome.nothing z
 
 reply-outcome : (port : ℕ) (text : List ℕ) (s : State) → Outcome (Call.Reply port text) s (Steps.reply port text s .state)
@@ -196,7 +222,7 @@ reply-outcome port text s =
     let g = turn-good port s e in
     read-outcome (Call.Reply port text) port text (lowered (ownAccount port s)) s refl g
     (λ p i q. not-true (eqb port p) q) (λ i q. not-true (standsIn port (lineOf i s)) q)
-    (λ password. refl) (λ password. lower g password) (λ password i e. refl))
+    (λ password. refl) (λ password. lower g password) (λ password i e. (refl, refl)) (λ password. SeedStep.stayed refl))
   where
     lower : TurnGood port s → (password : ℕ) → AccountGood (ownAccount port s) → AccountGood (lowered (ownAccount port s) password)
     lower g password a =
@@ -204,9 +230,9 @@ reply-outcome port text s =
         record {
           count-from = omega arith;
           count-to = omega (arith, a .count-to);
-          seed-from = a .seed-from;
-          seed-to = a .seed-to;
-          seed-kept = a .seed-kept;
+          few = a .few;
+          seeds = a .seeds;
+          different = a .different;
         }
 
 renew-outcome : (port number count : ℕ) (seed new text : List ℕ) (s : State)
@@ -217,10 +243,12 @@ renew-outcome port number count seed new text s =
     (λ e.
     let passed = renew-passed port number count seed s e in
     let g = turn-good port s (passed .turn) in
-    let id = ownAccount port s .id in
-    read-outcome (Call.Renew port number count seed new text) port text (λ password. newRoom id number count seed new) s refl g
+    let old = ownAccount port s in
+    let other = not-true (isOneOf (map lowerOf seed) (remembered old)) (must-good _ _ (passed .new)) in
+    read-outcome (Call.Renew port number count seed new text) port text (λ password. renewedRoom old number count seed new) s refl g
     (λ p i q. not-true (eqb port p) q) (λ i q. not-true (standsIn port (lineOf i s)) q) (λ password. refl)
-    (λ password a. new-good id number count seed new (passed .within) (passed .good)) (λ password i e. absurd (false≢true e)))
+    (λ password a. renewed-good old number count seed new (passed .within) (passed .good) other a) (λ password i e. absurd (false≢true e))
+    (λ password. SeedStep.renewed other refl))
 
 -- Every call, on every table.
 pub outcome : (c : Call) (s : State) → Outcome c s (after c s)

@@ -1,5 +1,7 @@
-// The table on a line: accounts by rising id, each with its line and turn, and the ports.
+// The table on a line: accounts by rising id, each with its seeds, its line and turn, and the ports.
 ghost use Prim.Native.Nat.{_<_};
+ghost use mathlib.Core.Path.{_≡_};
+ghost use lib.ListN.{length};
 use crate::printing::byte;
 use crate::printing::bytes;
 use crate::printing::good;
@@ -35,6 +37,26 @@ fn dash(shown: usize) {
 fn seed(kept: [u8; 16], len: usize) {
     if len <= 16 {
         bytes(&kept[..len]);
+    }
+}
+
+// The older seeds of the account in that room, newest first: each with its length before it in a place of 17 bytes. No call makes a longer one.
+fn older_seeds(older: &[u8], at: usize, n: u8)
+    requires { ⌜ at < 32 ⌝ }
+    requires { ⌜ length (now older) ≡ 3808 ⌝ }
+{
+    let mut i = 0;
+    while i < 7 {
+        if n as usize <= i {
+            return;
+        }
+        let from = at * 119 + i * 17;
+        let len = older[from];
+        i += 1;
+        if len <= 16 {
+            byte(b'/');
+            bytes(&older[from + 1..from + 1 + len as usize]);
+        }
     }
 }
 
@@ -82,8 +104,9 @@ fn waiting(lines: Lines, at: usize) {
 }
 
 // Entry k of the accounts, from a room.
-fn account(k: usize, table: Table, at: usize)
+fn account(k: usize, table: Table, older: &[u8], at: usize)
     requires { ⌜ at < 32 ⌝ }
+    requires { ⌜ length (now older) ≡ 3808 ⌝ }
 {
     let rooms = table.rooms;
     let account = rooms[at];
@@ -99,6 +122,7 @@ fn account(k: usize, table: Table, at: usize)
     byte(b':');
     let kept = account.seed;
     seed(kept, account.len);
+    older_seeds(older, at, account.older_count);
     byte(b':');
     waiting(table.lines, at);
 }
@@ -121,7 +145,9 @@ fn next_room(table: Table, last: u16) -> usize {
 }
 
 // How many accounts were shown.
-fn accounts(table: Table) -> usize {
+fn accounts(table: Table, older: &[u8]) -> usize
+    requires { ⌜ length (now older) ≡ 3808 ⌝ }
+{
     let rooms = table.rooms;
     let mut last: u16 = 0;
     let mut k = 0;
@@ -130,7 +156,7 @@ fn accounts(table: Table) -> usize {
         if 31 < at {
             return k;
         }
-        account(k, table, at);
+        account(k, table, older, at);
         let room = rooms[at];
         last = room.id;
         k += 1;
@@ -155,10 +181,10 @@ fn part(name: u8) {
     byte(b'=');
 }
 
-pub fn dump(table: Table) -> Table {
+pub fn dump(table: Table, older: &[u8; 3808]) -> Table {
     good();
     part(b'A');
-    dash(accounts(table));
+    dash(accounts(table, older));
     part(b'P');
     ports(table);
     byte(b'\n');

@@ -35,8 +35,8 @@ fn call_in(line: &[u8]) -> usize {
     names::call_of(&line[..end])
 }
 
-// Answers a call, and hands back the table after it.
-fn answer_call(line: &mut [u8], call: usize, table: Table) -> Table
+// Answers a call, and hands back the table after it. The older seeds of its accounts are lent.
+fn answer_call(line: &mut [u8], call: usize, table: Table, older: &mut [u8; 3808]) -> Table
     requires { ⌜ call < 20 ⌝ }
 {
     let given = script_words::read(line, call);
@@ -48,11 +48,11 @@ fn answer_call(line: &mut [u8], call: usize, table: Table) -> Table
         text_calls::answer(call, line, given);
         return table;
     }
-    table_calls::answer(call, line, given, table)
+    table_calls::answer(call, line, given, table, older)
 }
 
 // Answers a line, if it is not passed over, and hands back the table after it.
-fn answer(line: &mut [u8], table: Table) -> Table {
+fn answer(line: &mut [u8], table: Table, older: &mut [u8; 3808]) -> Table {
     if is_passed(line) {
         return table;
     }
@@ -61,18 +61,19 @@ fn answer(line: &mut [u8], table: Table) -> Table {
         printing::bad();
         return table;
     }
-    answer_call(line, call, table)
+    answer_call(line, call, table, older)
 }
 
-// Answers each line in turn. The last one may lack its newline.
+// Answers each line in turn. The last one may lack its newline. What the bytes for older seeds hold at the start doesn't matter.
 fn answer_all(input: &mut [u8]) {
     let mut table = table::fresh();
+    let mut older = [0xaau8; 3808];
     let mut at = 0;
     while at < input.len() {
         let start = at;
         let end = bytes::scan::find(input, start, input.len(), b'\n');
         at = end + 1;
-        table = answer(&mut input[start..end], table);
+        table = answer(&mut input[start..end], table, &mut older);
     }
 }
 

@@ -77,7 +77,7 @@ fn reply(line: &[u8], given: Given, table: Table) -> Table
     answered(login::reply(table, port(given), text(line, given, 1)))
 }
 
-fn renew(line: &[u8], given: Given, table: Table) -> Table
+fn renew(line: &[u8], given: Given, table: Table, older: &mut [u8; 3808]) -> Table
     requires { ⌜ Within given (length (now line)) ⌝ }
 {
     let bytes = bytes_of(number(given, 4));
@@ -86,6 +86,7 @@ fn renew(line: &[u8], given: Given, table: Table) -> Table
     let algorithm = short(given, 1) as u32;
     answered(login::renew(
         table,
+        older,
         port(given),
         algorithm,
         short(given, 2),
@@ -107,7 +108,7 @@ fn ticks(table: Table, n: u64) -> Table {
 }
 
 // Answers a call whose words are of its kinds, by its number.
-pub fn answer(call: usize, line: &[u8], given: Given, table: Table) -> Table
+pub fn answer(call: usize, line: &[u8], given: Given, table: Table, older: &mut [u8; 3808]) -> Table
     requires { ⌜ Within given (length (now line)) ⌝ }
 {
     match call {
@@ -118,8 +119,8 @@ pub fn answer(call: usize, line: &[u8], given: Given, table: Table) -> Table
         14 => leave(given, table),
         15 => challenge(given, table),
         16 => reply(line, given, table),
-        17 => renew(line, given, table),
+        17 => renew(line, given, table, older),
         18 => ticks(table, number(given, 0)),
-        _ => dump(table),
+        _ => dump(table, older),
     }
 }

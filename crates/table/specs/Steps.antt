@@ -1,4 +1,4 @@
--- The written steps, one for each call: document 01, 'Table, ports and turns', in its order and words; document 02, R-1 and R-4.
+-- The written steps, one for each call: document 01, 'Table, ports and turns', in its order and words; document 02, R-1, R-4 and R-5.
 use Prim.Native.Nat.{ℕ, _-_}
 use mathlib.Core.Bool.{cond}
 use mathlib.Core.List.{List, [], _∷_, map}
@@ -22,7 +22,7 @@ use Rattle.table.specs.declared.Replied.{Replied}
 use Rattle.table.specs.declared.Settled.{Settled}
 use Rattle.table.specs.declared.Answered.{Answered}
 use Rattle.accounts.specs.Rooms.{Room}
-use Rattle.accounts.specs.Accounts.{countWithin, newRoom, lowered, seedOther}
+use Rattle.accounts.specs.Accounts.{countWithin, newRoom, renewedRoom, lowered, seedOther}
 use Rattle.table.specs.Table.{
   State,
   view,
@@ -60,11 +60,11 @@ pub record After (A : Type 0) : Type 0 where
   pub state : State
 
 -- What the results' bytes mean.
-abbrev pub settled : Settled → After Checked
-settled r = record { answer = r .answer; state = view (r .table) }
+abbrev pub settled : Settled → List ℕ → After Checked
+settled r older = record { answer = r .answer; state = view (r .table) older }
 
-abbrev pub answered : Answered → After Replied
-answered r = record { answer = r .answer; state = view (r .table) }
+abbrev pub answered : Answered → List ℕ → After Replied
+answered r older = record { answer = r .answer; state = view (r .table) older }
 
 -- The number and value of what Reply and Renew answer: the new count.
 abbrev pub repliedNumbers : Replied → Listing × ℕ
@@ -81,7 +81,8 @@ replyRefused s why = record { answer = Replied.Refused why; state = s }
 abbrev pub done : State → After Checked
 done s = record { answer = Checked.Good; state = s }
 
--- Enrol: 50, 51, then R-1's 21 "after 51", 23, 24, 52, 53. The first free room is taken. The algorithm is given by its number.
+-- Enrol: 50, 51, then R-1's 21 "after 51", 23, 24, 52, 53. The first free room is taken. The algorithm is given by its number. The
+-- account remembers the one seed.
 unfoldable pub enrolChecked : ℕ → ℕ → ℕ → List ℕ → State → Checked
 enrolChecked id number count seed s =
     inOrder (idGiven id ∷ countWithin count ∷ algorithmChecked (numbered number) ∷ seedChecked seed ∷ idNew id s ∷ roomLeft s ∷ [])
@@ -91,7 +92,8 @@ enrol id number count seed password s =
     unless (refused s) (enrolChecked id number count seed s)
     (done (withAccount (placeOf 0 (s .rooms)) (newRoom id number count seed password) s))
 
--- Remove: 54. "Every port in line for that account, the front one too, leaves it"; R-4: "Remove empties that account's line."
+-- Remove: 54. "Every port in line for that account, the front one too, leaves it"; R-4: "Remove empties that account's line." R-5:
+-- "Remove forgets" its seeds.
 unfoldable pub remove : ℕ → State → After Checked
 remove id s = unless (refused s) (accountThere id s) (done (withRoom (placeOf id (s .rooms)) freeRoom s))
 
@@ -168,14 +170,14 @@ unfoldable pub reply : ℕ → List ℕ → State → After Replied
 reply port text s = unless (replyRefused s) (turnChecked port s) (replyRead port text s)
 
 -- Renew: 55, 59, 60, 58, 51, 21, 23, 24, 63, then 30 to 33, "then as Reply, but on a match the account takes the new count,
--- seed and password"; R-1: "renewal may change" the algorithm.
+-- seed and password"; R-1: "renewal may change" the algorithm; R-5: the seeds before the new one are remembered, eight in all.
 unfoldable pub renewChecked : ℕ → ℕ → ℕ → List ℕ → State → Checked
 renewChecked port number count seed s =
     inOrder (turnChecked port s ∷ countWithin count ∷ algorithmChecked (numbered number) ∷ seedChecked seed ∷ seedOther seed (ownAccount port s) ∷ [])
 
 unfoldable pub renewRead : ℕ → ℕ → ℕ → List ℕ → List ℕ → List ℕ → State → After Replied
 renewRead port number count seed new text s =
-    read s (readingOf text) (λ password. offered port password (newRoom (ownAccount port s .id) number count seed new) s)
+    read s (readingOf text) (λ password. offered port password (renewedRoom (ownAccount port s) number count seed new) s)
 
 unfoldable pub renew : ℕ → ℕ → ℕ → List ℕ → List ℕ → List ℕ → State → After Replied
 renew port number count seed new text s =

@@ -1,4 +1,4 @@
--- What a table is made of: document 01, 'Table, ports and turns', and document 02, R-4.
+-- What a table is made of: document 01, 'Table, ports and turns', and document 02, R-4 and R-5.
 use Prim.Native.Nat.{ℕ, suc}
 use mathlib.Core.Bool.{Bool, cond, not, _&&_}
 use mathlib.Core.List.{List, [], _∷_, _++_, map}
@@ -8,7 +8,7 @@ use Rattle.line.specs.declared.Front.{Front}
 use Rattle.line.specs.Line.{Waiting, waiting, empty, standsIn, frontOf}
 use Rattle.port.specs.declared.Port.{Port}
 use Rattle.accounts.specs.declared.Account.{Account}
-use Rattle.accounts.specs.Rooms.{Room, roomOf, free}
+use Rattle.accounts.specs.Rooms.{Room, partOf, roomOf, free}
 use Rattle.table.specs.declared.Table.{Table}
 
 -- What a room of the table holds: an account, or none, and R-4's "own line and turn" of the account.
@@ -24,13 +24,14 @@ pub record State : Type 0 where
   pub rooms : List Held
   pub ports : List Port
 
--- What a table's bytes mean: the accounts from room k on, each with its room's line.
-unfoldable pub heldFrom : ℕ → List Account → (ℕ → Waiting) → List Held
-heldFrom k [] lines = []
-heldFrom k (account ∷ accounts) lines = record { account = roomOf account; line = lines k } ∷ heldFrom (suc k) accounts lines
+-- What a table's bytes mean: the accounts from room k on, each with its room's older seeds and line.
+unfoldable pub heldFrom : ℕ → List Account → (ℕ → List ℕ) → (ℕ → Waiting) → List Held
+heldFrom k [] parts lines = []
+heldFrom k (account ∷ accounts) parts lines = record { account = roomOf account (parts k); line = lines k } ∷ heldFrom (suc k) accounts parts lines
 
-abbrev pub view : Table → State
-view t = record { rooms = heldFrom 0 (t .rooms) (waiting (t .lines)); ports = t .ports }
+-- The bytes of the older seeds stand apart from the table, and are lent to Renew alone.
+abbrev pub view : Table → List ℕ → State
+view t older = record { rooms = heldFrom 0 (t .rooms) (partOf older) (waiting (t .lines)); ports = t .ports }
 
 -- "A fresh table has no accounts, an empty line and zeros": no account, so no line that isn't empty.
 abbrev pub freshPort : Port

@@ -1,7 +1,9 @@
 // Where accounts stand in a table.
+ghost use Prim.Native.Nat.{ℕ};
 ghost use mathlib.Core.Path.{_≡_};
+ghost use mathlib.Core.List.{List};
 ghost use lib.Dec.{ltb};
-ghost use Rattle.accounts.specs.Rooms.{roomOf};
+ghost use Rattle.accounts.specs.Rooms.{partOf, roomOf};
 ghost use Rattle.table.specs.Table.{view, placeOf, holds, roomAt, withAccount};
 use crate::Table;
 use accounts::Account;
@@ -9,7 +11,7 @@ use accounts::FREE;
 
 // The first room with that id, with 0 the first free one; 32 where none has it.
 pub fn place_of(table: Table, id: u16) -> usize
-    ensures { λ r. ⌜ (r ≡ placeOf id (view table .rooms)) × (ltb r 32 ≡ holds id (view table .rooms)) ⌝ }
+    ensures { λ r. ⌜ ((older : List ℕ) → (r ≡ placeOf id (view table older .rooms)) × (ltb r 32 ≡ holds id (view table older .rooms))) ⌝ }
 {
     let rooms = table.rooms;
     let mut i = 0;
@@ -25,7 +27,7 @@ pub fn place_of(table: Table, id: u16) -> usize
 
 // The account in that room; a free room past the last.
 pub fn account_at(table: Table, place: usize) -> Account
-    ensures { λ r. ⌜ roomOf r ≡ roomAt place (view table) .account ⌝ }
+    ensures { λ r. ⌜ ((older : List ℕ) → roomOf r (partOf older place) ≡ roomAt place (view table older) .account) ⌝ }
 {
     if 31 < place {
         return FREE;
@@ -36,7 +38,7 @@ pub fn account_at(table: Table, place: usize) -> Account
 
 // The table with that account in that room, whose line stays; as it is past the last.
 pub fn put(mut table: Table, place: usize, account: Account) -> Table
-    ensures { λ r. ⌜ view r ≡ withAccount place (roomOf account) (view table) ⌝ }
+    ensures { λ r. ⌜ ((older : List ℕ) → view r older ≡ withAccount place (roomOf account (partOf older place)) (view table older)) ⌝ }
 {
     if place < 32 {
         table.rooms[place] = account;

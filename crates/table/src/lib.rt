@@ -1,5 +1,9 @@
-// The login table of one controller: accounts, ports and the lines of those that wait; and what its calls answer.
+// The login table of one controller: accounts, ports and the lines of those that wait; and what its calls answer. Of an account's remembered seeds
+// the table has the present one. The older ones, which one call in many looks at, are 3,808 bytes that the controller keeps beside the table and lends
+// to Renew: seven places of 17 bytes for each room (`accounts::older`). What they hold at the start doesn't matter.
+ghost use Prim.Native.Nat.{ℕ};
 ghost use mathlib.Core.Path.{_≡_};
+ghost use mathlib.Core.List.{List};
 ghost use Rattle.table.specs.Table as spec;
 use accounts::Account;
 use accounts::FREE;
@@ -36,7 +40,7 @@ pub struct Answered {
 }
 
 pub fn fresh() -> Table
-    ensures { λ r. ⌜ spec.view r ≡ spec.fresh ⌝ }
+    ensures { λ r. ⌜ ((older : List ℕ) → spec.view r older ≡ spec.fresh) ⌝ }
 {
     Table {
         rooms: [FREE; 32],

@@ -2,12 +2,11 @@
 use Prim.Native.Nat.{ℕ}
 use mathlib.Core.List.{List}
 use Rattle.refusal.specs.declared.Refusal.{Refusal}
-use Rattle.refusal.specs.declared.Checked.{Checked}
 use Rattle.refusal.specs.declared.Reading.{Reading}
 use Rattle.refusal.specs.Checks.{unless}
 use Rattle.reply.specs.Reply.{readingOf}
 use Rattle.accounts.specs.Rooms.{Room}
-use Rattle.accounts.specs.Accounts.{newRoom, lowered, valuesChecked}
+use Rattle.accounts.specs.Accounts.{renewedRoom, lowered, valuesChecked}
 use Rattle.table.specs.declared.Replied.{Replied}
 use Rattle.turns.specs.TurnPart.{Seen, Said, refused, offered}
 
@@ -30,10 +29,10 @@ replied text t = unless (refused t) (t .checked) (replyRead text t)
 unfoldable pub renewRead : List ℕ → Room → Seen → Said
 renewRead text next t = read t (readingOf text) (λ password. offered password next t)
 
-abbrev pub renewChecked : Checked → Seen → Checked
-renewChecked values t = unless Checked.Refused (t .checked) values
+-- Renew, of a port whose turn's checks found nothing wrong.
+unfoldable pub renewValues : ℕ → ℕ → List ℕ → List ℕ → List ℕ → Seen → Said
+renewValues number count seed new text t =
+    unless (refused t) (valuesChecked number count seed (t .account)) (renewRead text (renewedRoom (t .account) number count seed new) t)
 
 unfoldable pub renewed : ℕ → ℕ → List ℕ → List ℕ → List ℕ → Seen → Said
-renewed number count seed new text t =
-    unless (refused t) (renewChecked (valuesChecked number count seed (t .account)) t)
-    (renewRead text (newRoom (t .account .id) number count seed new) t)
+renewed number count seed new text t = unless (refused t) (t .checked) (renewValues number count seed new text t)

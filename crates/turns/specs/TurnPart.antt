@@ -1,13 +1,14 @@
 -- What a call of a turn looks at, and what becomes of it: TurnPartLaws ties it to the written steps, on the whole table.
 use Prim.Native.Nat.{ℕ}
 use mathlib.Core.Bool.{Bool, true, false, cond}
+use mathlib.Core.List.{List}
 use lib.Dec.{eqb}
 use Rattle.refusal.specs.declared.Refusal.{Refusal}
 use Rattle.refusal.specs.declared.Checked.{Checked}
 use Rattle.password.specs.Password.{hash, bytesOf}
 use Rattle.port.specs.declared.Port.{Port}
 use Rattle.port.specs.Port.{wrongly, wrongAnswer, rightly}
-use Rattle.accounts.specs.Rooms.{Room, roomOf}
+use Rattle.accounts.specs.Rooms.{Room, partOf, roomOf}
 use Rattle.table.specs.declared.Replied.{Replied}
 use Rattle.table.specs.Table.{State, portOf, standsAt, ownAccount, withAccount, withPort}
 use Rattle.table.specs.Steps.{After, turnChecked, leaves}
@@ -21,9 +22,9 @@ pub record Seen : Type 0 where
   pub own : Port
   pub checked : Checked
 
--- What a turn's bytes mean.
-abbrev pub seen : TurnPart → Seen
-seen t = record { place = t .place; account = roomOf (t .account); own = t .own; checked = t .checked }
+-- What a turn's bytes mean, with those of the older seeds.
+abbrev pub seen : TurnPart → List ℕ → Seen
+seen t older = record { place = t .place; account = roomOf (t .account) (partOf older (t .place)); own = t .own; checked = t .checked }
 
 -- What a port's call sees of a table.
 abbrev pub seenBy : ℕ → State → Seen
@@ -37,8 +38,19 @@ pub record Said : Type 0 where
   pub leaves : Bool
   pub answer : Replied
 
-abbrev pub outcome : Outcome → Said
-outcome o = record { place = o .place; account = roomOf (o .account); own = o .own; leaves = o .leaves; answer = o .answer }
+abbrev pub outcome : Outcome → List ℕ → Said
+outcome o older = record {
+  place = o .place;
+  account = roomOf (o .account) (partOf older (o .place));
+  own = o .own;
+  leaves = o .leaves;
+  answer = o .answer;
+}
+
+-- The older seeds after an answer: others where it is accepted, and as they were where it isn't.
+abbrev pub olderAfter : Replied → List ℕ → List ℕ → List ℕ
+olderAfter (Replied.Accepted count) older next = next
+olderAfter (Replied.Refused why) older next = older
 
 -- The table with what became of the account and of the port.
 abbrev pub putBack : ℕ → State → Said → State

@@ -3,15 +3,28 @@ use Prim.Native.Nat.{ℕ}
 use mathlib.Core.Path.{_≡_, refl, ap}
 use mathlib.Core.Bool.{Bool, true, false, cond}
 use lib.Dec.{eqb}
+use mathlib.Core.List.{List}
 use lib.Seq.{set-getD}
 use Rattle.refusal.specs.declared.Refusal.{Refusal}
 use Rattle.password.specs.Password.{hash, bytesOf}
 use Rattle.port.specs.Port.{wrongly, wrongAnswer}
-use Rattle.accounts.specs.Rooms.{Room}
+use Rattle.accounts.specs.Rooms.{Room, partOf}
+use Rattle.table.specs.declared.Table.{Table}
 use Rattle.table.specs.declared.Replied.{Replied}
-use Rattle.table.specs.Table.{State, freeRoom, freshPort, standsAt, ownAccount, portOf, withAccount, withPort}
+use Rattle.table.specs.Table.{State, view, freeRoom, freshPort, standsAt, ownAccount, portOf, withAccount, withPort}
+use Rattle.table.specs.ViewLaws.{older-elsewhere}
 use Rattle.table.specs.Steps as steps
-use Rattle.turns.specs.TurnPart.{seenBy, after, refused, accepted, rejected, offered}
+use Rattle.turns.specs.TurnPart.{Said, seenBy, after, refused, accepted, rejected, offered}
+
+-- Where the older seeds of all other rooms are the same, it doesn't matter beside which the account is put back.
+pub after-elsewhere : (port : ℕ) (t : Table) (older older′ : List ℕ) (o : Said)
+    → ((room : ℕ) → (room ≡ o .place → ⊥) → partOf older′ room ≡ partOf older room)
+    → after port (view t older′) o ≡ after port (view t older) o
+after-elsewhere port t older older′ o f =
+    ap (λ (s : State). record {
+      answer = o .answer;
+      state = cond (o .leaves) (steps.leaves port (withPort port (o .own) s)) (withPort port (o .own) s);
+    }) (older-elsewhere t older older′ (o .place) (o .account) f)
 
 module _ (port : ℕ) (s : State) where
   -- The account where it was found.

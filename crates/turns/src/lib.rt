@@ -1,9 +1,13 @@
 // The calls of the port that has the turn: Challenge, Reply and Renew.
+ghost use Prim.Native.Nat.{ℕ};
 ghost use mathlib.Core.Path.{_≡_};
+ghost use mathlib.Core.List.{List};
 ghost use lib.ListN.{length, getD, set};
 ghost use Rattle.text.specs.Put.{leaves};
 ghost use Rattle.table.specs.Table.{view, freshPort};
 ghost use Rattle.table.specs.Steps as steps;
+ghost use Rattle.table.specs.declared.Replied.{Replied};
+ghost use Rattle.refusal.specs.declared.Refusal.{Refusal};
 ghost use Rattle.turns.specs.TurnPart.{seen, seenBy, outcome, after};
 use crate::offering::Outcome;
 use crate::offering::TurnPart;
@@ -40,7 +44,7 @@ fn own_of(ports: [Port; 4], port: u8) -> Port
 
 // What a port's call looks at.
 fn turn_of(table: Table, port: u8) -> TurnPart
-    ensures { λ r. ⌜ seen r ≡ seenBy port (view table) ⌝ }
+    ensures { λ r. ⌜ ((older : List ℕ) → seen r older ≡ seenBy port (view table older)) ⌝ }
 {
     let lines = table.lines;
     let place = room_of(lines, port);
@@ -70,7 +74,7 @@ fn put_own(mut ports: [Port; 4], port: u8, own: Port) -> [Port; 4]
 
 // The table with what became of the account and of the port.
 fn put_back(table: Table, port: u8, made: Outcome) -> Answered
-    ensures { λ r. ⌜ steps.answered r ≡ after port (view table) (outcome made) ⌝ }
+    ensures { λ r. ⌜ ((older : List ℕ) → steps.answered r older ≡ after port (view table older) (outcome made older)) ⌝ }
 {
     let account = made.account;
     let mut next = put(table, made.place, account);
@@ -91,8 +95,8 @@ fn put_back(table: Table, port: u8, made: Outcome) -> Answered
 
 // What the port is to answer. The table stays as it is.
 pub fn challenge(table: Table, port: u8, buf: &mut [u8]) -> Written
-    ensures answered { λ r. ⌜ r ≡ steps.challenge port (length (now (buf .entry))) (view table) ⌝ }
-    ensures left { λ r. ⌜ now (buf .exit) ≡ leaves r (steps.challengeFor port (view table)) (now (buf .entry)) ⌝ }
+    ensures answered { λ r. ⌜ ((older : List ℕ) → r ≡ steps.challenge port (length (now (buf .entry))) (view table older)) ⌝ }
+    ensures left { λ r. ⌜ ((older : List ℕ) → now (buf .exit) ≡ leaves r (steps.challengeFor port (view table older)) (now (buf .entry))) ⌝ }
 {
     let turn = turn_of(table, port);
     let checked = turn.checked;
@@ -104,14 +108,16 @@ pub fn challenge(table: Table, port: u8, buf: &mut [u8]) -> Written
 }
 
 pub fn reply(table: Table, port: u8, text: &[u8]) -> Answered
-    ensures { λ r. ⌜ steps.answered r ≡ steps.reply port (now (text .entry)) (view table) ⌝ }
+    ensures { λ r. ⌜ ((older : List ℕ) → steps.answered r older ≡ steps.reply port (now (text .entry)) (view table older)) ⌝ }
 {
     let made = replied(turn_of(table, port), text);
     put_back(table, port, made)
 }
 
+// The older seeds are lent: an accepted renewal changes those of its account.
 pub fn renew(
     table: Table,
+    older: &mut [u8; 3808],
     port: u8,
     algorithm: u32,
     count: u16,
@@ -119,8 +125,18 @@ pub fn renew(
     password: &[u8; 8],
     text: &[u8],
 ) -> Answered
-    ensures { λ r. ⌜ steps.answered r ≡ steps.renew port algorithm count (now (seed .entry)) (now (password .entry)) (now (text .entry)) (view table) ⌝ }
+    ensures answered { λ r. ⌜ steps.answered r (now (older .exit))
+        ≡ steps.renew port algorithm count (now (seed .entry)) (now (password .entry)) (now (text .entry)) (view table (now (older .entry))) ⌝ }
+    ensures left { λ r. ⌜ ((why : Refusal) → r .answer ≡ Replied.Refused why → now (older .exit) ≡ now (older .entry)) ⌝ }
 {
-    let made = renewed(turn_of(table, port), algorithm, count, seed, password, text);
+    let made = renewed(
+        turn_of(table, port),
+        older,
+        algorithm,
+        count,
+        seed,
+        password,
+        text,
+    );
     put_back(table, port, made)
 }

@@ -1,8 +1,10 @@
 // What is done with a password that is offered in a turn.
+ghost use Prim.Native.Nat.{ℕ};
 ghost use mathlib.Core.Path.{_≡_};
-ghost use Rattle.accounts.specs.Rooms.{roomOf};
+ghost use mathlib.Core.List.{List};
+ghost use Rattle.accounts.specs.Rooms.{partOf, roomOf};
 ghost use Rattle.turns.specs.TurnPart as spec;
-ghost use Rattle.turns.specs.TurnPart.{seen, outcome};
+ghost use Rattle.turns.specs.TurnPart.{seen, outcome, olderAfter};
 use accounts::Account;
 use generator::chain::step;
 use port::Port;
@@ -32,7 +34,7 @@ pub struct Outcome {
 
 // An answer that changes nothing.
 pub fn stays(turn: TurnPart, answer: Replied) -> Outcome
-    ensures { λ r. ⌜ outcome r ≡ spec.stays answer (seen turn) ⌝ }
+    ensures { λ r. ⌜ ((older : List ℕ) → outcome r older ≡ spec.stays answer (seen turn older)) ⌝ }
 {
     let account = turn.account;
     let own = turn.own;
@@ -46,7 +48,7 @@ pub fn stays(turn: TurnPart, answer: Replied) -> Outcome
 }
 
 fn accepted(turn: TurnPart, next: Account) -> Outcome
-    ensures { λ r. ⌜ outcome r ≡ spec.accepted (roomOf next) (seen turn) ⌝ }
+    ensures { λ r. ⌜ ((older new : List ℕ) → outcome r new ≡ spec.accepted (roomOf next (partOf new (turn .place))) (seen turn older)) ⌝ }
 {
     Outcome {
         place: turn.place,
@@ -58,7 +60,7 @@ fn accepted(turn: TurnPart, next: Account) -> Outcome
 }
 
 fn rejected(turn: TurnPart) -> Outcome
-    ensures { λ r. ⌜ outcome r ≡ spec.rejected (seen turn) ⌝ }
+    ensures { λ r. ⌜ ((older : List ℕ) → outcome r older ≡ spec.rejected (seen turn older)) ⌝ }
 {
     let present = turn.account;
     Outcome {
@@ -70,9 +72,10 @@ fn rejected(turn: TurnPart) -> Outcome
     }
 }
 
-// Where the hash, by the account's present algorithm, is the stored password, the account becomes `next`.
+// Where the hash, by the account's present algorithm, is the stored password, the account becomes `next`, with the older seeds that it has then.
 pub fn offer(turn: TurnPart, password: u64, next: Account) -> Outcome
-    ensures { λ r. ⌜ outcome r ≡ spec.offered password (roomOf next) (seen turn) ⌝ }
+    ensures { λ r. ⌜ ((older new : List ℕ) → outcome r (olderAfter (r .answer) older new)
+        ≡ spec.offered password (roomOf next (partOf new (turn .place))) (seen turn older)) ⌝ }
 {
     let account = turn.account;
     let algorithm = account.algorithm;

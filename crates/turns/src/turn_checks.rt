@@ -1,5 +1,7 @@
 // What Challenge, Reply and Renew check first: the port is in front of its own line, and its account isn't used up.
+ghost use Prim.Native.Nat.{ℕ};
 ghost use mathlib.Core.Path.{_≡_};
+ghost use mathlib.Core.List.{List};
 ghost use Rattle.line.specs.Line as line;
 ghost use Rattle.accounts.specs.Rooms.{roomOf};
 ghost use Rattle.table.specs.Table.{isFront};
@@ -39,7 +41,7 @@ fn check_place(lines: Lines, place: usize, port: u8) -> Checked
 
 // 54, 58, of what stands in that room: a free room where no account is there.
 fn check_account(account: Account) -> Checked
-    ensures { λ r. ⌜ r ≡ inOrder (accountChecks (roomOf account)) ⌝ }
+    ensures { λ r. ⌜ ((part : List ℕ) → r ≡ inOrder (accountChecks (roomOf account part))) ⌝ }
 {
     if account.id == 0 {
         return Checked::Refused(Refusal::AccountMissing);
@@ -51,7 +53,7 @@ fn check_account(account: Account) -> Checked
 }
 
 pub fn check_turn(lines: Lines, place: usize, account: Account, port: u8) -> Checked
-    ensures { λ r. ⌜ r ≡ frontChecked port place (line.waiting lines place) (roomOf account) ⌝ }
+    ensures { λ r. ⌜ ((part : List ℕ) → r ≡ frontChecked port place (line.waiting lines place) (roomOf account part)) ⌝ }
 {
     let placed = check_place(lines, place, port);
     if let Checked::Refused(_) = placed {

@@ -6,10 +6,10 @@ use Rattle.meter.proofs.repeat.Statement.{statement}
 use Rattle.meter.proofs.repeat.Tie as tie
 
 abbrev Inv-loop : tie.InvT-loop
-Inv-loop call start id times ticks last₀ k₀ last k = k ≤ times
+Inv-loop call start older₀ id times ticks last₀ k₀ older last k = k ≤ times
 
 abbrev μ-loop : tie.MeasureT-loop
-μ-loop call start id times ticks last₀ k₀ last k = times - k
+μ-loop call start older₀ id times ticks last₀ k₀ older last k = times - k
 
 pub repeat-spec : {M : Type 1} → statement M
 repeat-spec =

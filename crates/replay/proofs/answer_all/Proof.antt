@@ -9,10 +9,10 @@ use Rattle.replay.proofs.answer_all.Statement.{statement}
 use Rattle.replay.proofs.answer_all.Tie as tie
 
 abbrev Inv-loop : tie.InvT-loop
-Inv-loop input₀ table₀ at₀ input table at = (at ≤ length input₀ + 1) × (length input ≡ length input₀)
+Inv-loop input₀ table₀ older₀ at₀ input table older at = (at ≤ length input₀ + 1) × (length input ≡ length input₀)
 
 abbrev μ-loop : tie.MeasureT-loop
-μ-loop input₀ table₀ at₀ input table at = length input₀ + 1 - at
+μ-loop input₀ table₀ older₀ at₀ input table older at = length input₀ + 1 - at
 
 pub answer-all-spec : {M : Type 1} → statement M
 answer-all-spec =
@@ -29,7 +29,7 @@ answer-all-spec =
     (λ c. search needs)
     (λ c κs. search needs)
     (λ c. search needs)
-    (λ c. let f = c .before .before .before .before in
+    (λ c. let f = c .before .before .before .before .before in
     let at = f .before .before .before .loop in (
       omega (arith, f .find .ensures .1),
       same-len-mid (at .at) (f .find .result - at .at) (at .input)

@@ -16,6 +16,6 @@ answer-call-spec =
     (λ c κs. let r = c .before .before .before .before .before .before .read in subst (Within (r .result)) (sym (r .kept .0)) (r .ensures))
     (λ c. search needs)
     (λ c. search needs)
-    (λ c κs. let r = c .before .before .before .before .before .before .read in subst (Within (r .result)) (sym (r .kept .0)) (r .ensures))
+    (λ c κs. let r = c .before .before .before .before .before .before .before .read in subst (Within (r .result)) (sym (r .kept .0)) (r .ensures))
     (λ c. search needs)
     (λ c. search needs))

@@ -9,6 +9,7 @@ use lib.ListN.{length, getD, drop, drop-of-length-le}
 use lib.Seq.{drop-cons}
 use Rattle.line.specs.Line.{Waiting, waiting}
 use Rattle.accounts.specs.declared.Account.{Account}
+use Rattle.accounts.specs.Rooms.{partOf}
 use Rattle.table.specs.declared.Table.{Table}
 use Rattle.table.specs.Table.{heldFrom, view, placeOf, holds}
 use Rattle.table.specs.ViewLaws.{blank, rooms-32}
@@ -18,11 +19,11 @@ unfoldable pub firstWith : ℕ → List Account → ℕ
 firstWith id [] = 0
 firstWith id (a ∷ l) = cond (eqb (a .id) id) 0 (suc (firstWith id l))
 
--- It stands in the room with that id, whatever the lines are.
-place-first : (lines : ℕ → Waiting) (id k : ℕ) (l : List Account) → placeOf id (heldFrom k l lines) ≡ firstWith id l
+-- It stands in the room with that id, whatever the older seeds and the lines are.
+place-first : (parts : ℕ → List ℕ) (lines : ℕ → Waiting) (id k : ℕ) (l : List Account) → placeOf id (heldFrom k l parts lines) ≡ firstWith id l
 unfolding firstWith placeOf heldFrom
-place-first lines id k [] = refl
-place-first lines id k (a ∷ l) = ap (λ (n : ℕ). cond (eqb (a .id) id) 0 (suc n)) (place-first lines id (suc k) l)
+place-first parts lines id k [] = refl
+place-first parts lines id k (a ∷ l) = ap (λ (n : ℕ). cond (eqb (a .id) id) 0 (suc n)) (place-first parts lines id (suc k) l)
 
 module _ (id : ℕ) (l : List Account) (i : ℕ) (h : i < length l) where
   placed : firstWith id (drop i l) ≡ cond (eqb (getD l i blank .id) id) 0 (suc (firstWith id (drop (i + 1) l)))
@@ -44,8 +45,8 @@ unfolding firstWith
 placed-past id l i h = ap (firstWith id) (drop-of-length-le l {i = i} h)
 
 -- What a look through the rooms has found: the place of an id, and whether it is one of the 32.
-pub looked : (id : ℕ) (t : Table) (n : ℕ) → length (t .rooms) ≡ 32 → firstWith id (t .rooms) ≡ n
-    → (n ≡ placeOf id (view t .rooms)) × (ltb n 32 ≡ holds id (view t .rooms))
-looked id t n all e =
-    let place = sym e ∙ sym (place-first (waiting (t .lines)) id 0 (t .rooms)) in
-    (place, ap₂ ltb place (sym (rooms-32 t all)))
+pub looked : (id : ℕ) (t : Table) (n : ℕ) → length (t .rooms) ≡ 32 → firstWith id (t .rooms) ≡ n → (older : List ℕ)
+    → (n ≡ placeOf id (view t older .rooms)) × (ltb n 32 ≡ holds id (view t older .rooms))
+looked id t n all e older =
+    let place = sym e ∙ sym (place-first (partOf older) (waiting (t .lines)) id 0 (t .rooms)) in
+    (place, ap₂ ltb place (sym (rooms-32 t older all)))

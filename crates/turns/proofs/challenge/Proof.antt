@@ -5,7 +5,6 @@ use borrow.Author.Needs.{needs}
 use lib.ListN.{length}
 use Rattle.text.specs.Put.{leaves}
 use Rattle.challenge.specs.Challenges.{challengeText, challengeWrittenBy}
-use Rattle.accounts.specs.Rooms.{Room}
 use Rattle.table.specs.Table.{view}
 use Rattle.table.specs.StepLaws.{challenge-refused, challenge-done}
 use Rattle.turns.specs.TurnPart.{Seen}
@@ -14,9 +13,12 @@ use Rattle.turns.proofs.challenge.Tie as tie
 
 returns : tie.Need-returns
 returns c =
-    let turned = c .before .before .before in
-    let s = view (turned .before .before .args .table) in
-    (sym (challenge-refused _ s _ _ (sym (ap (λ (t : Seen). t .checked) (turned .turn-of .ensures)) ∙ c .before .checked .given .1)), refl)
+    let turned = c .before .before .before in (
+      λ older.
+          sym (challenge-refused _ (view (turned .before .before .args .table) older) _ _
+          (sym (ap (λ (t : Seen). t .checked) (turned .turn-of .ensures older)) ∙ c .before .checked .given .1)),
+      λ older. refl,
+    )
 
 returns-2 : tie.Need-returns-2
 returns-2 c =
@@ -24,14 +26,16 @@ returns-2 c =
     let told = wrote .before .before .before in
     let turned = told .before .before in
     let a = turned .before .before .args in
-    let b = a .buf .now in
-    let account = ap (λ (t : Seen). t .account) (turned .turn-of .ensures) in
-    let checked = ap (λ (t : Seen). t .checked) (turned .turn-of .ensures) in (
-      wrote .write-challenge .ensures .0
-          ∙ ap (λ (r : Room). challengeWrittenBy (r .algorithm) (r .seed) (r .count - 1) (length b)) account
-          ∙ sym (challenge-done _ (view (a .table)) _ (sym checked ∙ told .enum-told .given .1)),
-      wrote .write-challenge .ensures .1
-          ∙ ap (λ (r : Room). leaves (wrote .write-challenge .result) (challengeText (r .algorithm) (r .seed) (r .count - 1)) b) account,
+    let b = a .buf .now in (
+      λ older.
+          wrote .write-challenge .ensures .0
+          ∙ ap (λ (t : Seen). challengeWrittenBy (t .account .algorithm) (t .account .seed) (t .account .count - 1) (length b)) (turned .turn-of .ensures older)
+          ∙ sym (challenge-done _ (view (a .table) older) _
+          (sym (ap (λ (t : Seen). t .checked) (turned .turn-of .ensures older)) ∙ told .enum-told .given .1)),
+      λ older.
+          wrote .write-challenge .ensures .1
+          ∙ ap (λ (t : Seen). leaves (wrote .write-challenge .result)
+          (challengeText (t .account .algorithm) (t .account .seed) (t .account .count - 1)) b) (turned .turn-of .ensures older),
     )
 
 pub challenge-spec : {M : Type 1} → statement M

@@ -9,13 +9,13 @@ use Rattle.turns.proofs.reply.Statement.{statement}
 use Rattle.turns.proofs.reply.Tie as tie
 
 returns : tie.Need-returns
-returns c =
+returns c older =
     let done = c .before in
     let turned = done .before in
     let a = turned .before .before .args in
-    let s = view (a .table) in
-    c .put-back .ensures
-    ∙ ap (after (a .port) s) (done .replied .ensures ∙ ap (spec.replied (a .text .now)) (turned .turn-of .ensures))
+    let s = view (a .table) older in
+    c .put-back .ensures older
+    ∙ ap (after (a .port) s) (done .replied .ensures older ∙ ap (spec.replied (a .text .now)) (turned .turn-of .ensures older))
     ∙ after-reply (a .port) s (a .text .now)
 
 pub reply-spec : {M : Type 1} → statement M

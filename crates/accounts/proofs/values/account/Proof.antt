@@ -6,11 +6,12 @@ use borrow.Author.Needs.{needs}
 use lib.ListN.{take}
 use lib.Seq.{take-at}
 use Rattle.text.specs.Kinds.{lowerOf}
+use Rattle.accounts.specs.Rooms.{inPlaces}
 use Rattle.accounts.proofs.values.account.Statement.{statement}
 use Rattle.accounts.proofs.values.account.Tie as tie
 
 returns : tie.Need-returns
-returns c =
+returns c part =
     let a = c .before .before .before .before .before .before .before .args in
     let put = c .before .before .before .before .put-lower .ensures in
     let seed = ap₂ (λ (n : ℕ) (l : List ℕ). take n l) (put .0) (put .1) ∙ take-at (map lowerOf (a .seed .now)) _ _ refl in
@@ -18,6 +19,7 @@ returns c =
       id = a .id;
       algorithm = c .before .before .algorithm-of .ensures i;
       seed = seed i;
+      older = take (a .older-count) (inPlaces 7 part);
       count = a .count;
       password = c .number-of .ensures i;
     }

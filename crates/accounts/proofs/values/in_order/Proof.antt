@@ -13,14 +13,12 @@ alone : (check : Checked) → check ≡ inOrder (check ∷ [])
 alone Checked.Good = refl
 alone (Checked.Refused why) = refl
 
-returns-4 : tie.Need-returns-4
-returns-4 c =
-    let second = c .before .before in
-    let first = second .before .before in
+returns-3 : tie.Need-returns-3
+returns-3 c =
+    let first = c .before .before in
     let a = first .before .before .args in
     alone (a .last)
-    ∙ first-good Checked.Refused (a .third) _ (c .enum-told6 .given .1)
-    ∙ first-good Checked.Refused (a .second) _ (second .enum-told4 .given .1)
+    ∙ first-good Checked.Refused (a .second) _ (c .enum-told4 .given .1)
     ∙ first-good Checked.Refused (a .first) _ (first .enum-told2 .given .1)
 
 pub in-order-spec : {M : Type 1} → statement M
@@ -33,7 +31,4 @@ in-order-spec =
     (λ c. search needs)
     (λ c. search needs)
     (λ c. search needs)
-    (λ c. search needs)
-    (λ c. search needs)
-    (λ c. search needs)
-    returns-4)
+    returns-3)

@@ -30,39 +30,39 @@ abbrev from : tie.After-check-remove → tie.Start
 from c = c .before .before
 
 -- What was checked.
-checked : (c : tie.After-check-remove) → c .check-remove .result ≡ accountThere (from c .args .id) (view (from c .args .table))
-checked c =
+checked : (c : tie.After-check-remove) (older : List ℕ) → c .check-remove .result ≡ accountThere (from c .args .id) (view (from c .args .table) older)
+checked c older =
     c .check-remove .ensures
-    ∙ ap (λ (held : Bool). must (not (eqb (from c .args .id) 0) && held) Refusal.AccountMissing) (c .before .place-of .ensures .1)
+    ∙ ap (λ (held : Bool). must (not (eqb (from c .args .id) 0) && held) Refusal.AccountMissing) (c .before .place-of .ensures older .1)
 
 -- Remove, by what its check says.
-abbrev by-check : tie.Start → Checked → After Checked
-by-check c check =
-    let s = view (c .args .table) in
+abbrev by-check : tie.Start → List ℕ → Checked → After Checked
+by-check c older check =
+    let s = view (c .args .table) older in
     unless (refused s) check (done (withRoom (placeOf (c .args .id) (s .rooms)) freeRoom s))
 
 returns : tie.Need-returns
 unfolding remove
-returns c =
+returns c older =
     let asked = c .before .before in
-    let s = view (from asked .args .table) in
+    let s = view (from asked .args .table) older in
     ap (λ (k : Checked). record { answer = k; state = s }) (c .enum-told .given .1)
-    ∙ sym (ap (by-check (from asked)) (sym (checked asked) ∙ c .enum-told .given .1))
+    ∙ sym (ap (by-check (from asked) older) (sym (checked asked older) ∙ c .enum-told .given .1))
 
 returns-2 : tie.Need-returns-2
 unfolding remove
-returns-2 c =
+returns-2 c older =
     let housed = c .before .before in
     let told = housed .before in
     let asked = told .before .before in
-    let s = view (from asked .args .table) in
+    let s = view (from asked .args .table) older in
     let place = asked .before .place-of .result in
-    let rooms = line-set (housed .put .result) (c .remove .result) place empty (c .remove .ensures)
-    ∙ ap (λ (s′ : State). withLine place empty s′ .rooms) (housed .put .ensures)
+    let rooms = line-set (housed .put .result) older (c .remove .result) place empty (c .remove .ensures)
+    ∙ ap (λ (s′ : State). withLine place empty s′ .rooms) (housed .put .ensures older)
     ∙ freed (s .rooms) place (getD (s .rooms) place freeRoom .line)
-    ∙ ap (λ (n : ℕ). set (s .rooms) n freeRoom) (asked .before .place-of .ensures .0) in
-    (λ i. record { answer = told .enum-told2 .given .1 i; state = record { rooms = rooms i; ports = housed .put .ensures i .ports } })
-    ∙ sym (ap (by-check (from asked)) (sym (checked asked) ∙ told .enum-told2 .given .1))
+    ∙ ap (λ (n : ℕ). set (s .rooms) n freeRoom) (asked .before .place-of .ensures older .0) in
+    (λ i. record { answer = told .enum-told2 .given .1 i; state = record { rooms = rooms i; ports = housed .put .ensures older i .ports } })
+    ∙ sym (ap (by-check (from asked) older) (sym (checked asked older) ∙ told .enum-told2 .given .1))
 
 pub remove-spec : {M : Type 1} → statement M
 remove-spec =

@@ -15,12 +15,12 @@ all : (c : tie.Start) → length (c .args .table .rooms) ≡ 32
 all c = search (needs, unmapped)
 
 returns : tie.Need-returns
-returns c =
+returns c older part =
     let opened = c .before .before .before in
     let found = opened .before .before in
     let start = found .before .before in
     let a = start .args in
-    let inside = found .has .ensures ∙ waits-at (a .table) (all start) (a .port) in
+    let inside = found .has .ensures ∙ waits-at (a .table) older (all start) (a .port) in
     c .join-answer .ensures
     ∙ (λ i. inOrder (joinChecks (leb (a .port) 3) (not (eqb (a .account .id) 0)) (not (inside i)) (opened .is-open .ensures i) (ltb 1 (a .account .count))))
 

@@ -8,9 +8,9 @@ use Rattle.login.proofs.ticking.tick.Tie as tie
 
 returns : tie.Need-returns
 unfolding tick
-returns c =
+returns c older =
     let cooled = c .before .before in
-    let rooms = lines-changed (cooled .before .before .args .table) (c .tick .result) ticked (c .tick .ensures) in
+    let rooms = lines-changed (cooled .before .before .args .table) older (c .tick .result) ticked (c .tick .ensures) in
     λ i. record { rooms = rooms i; ports = cooled .ticked .ensures i }
 
 pub tick-spec : {M : Type 1} → statement M

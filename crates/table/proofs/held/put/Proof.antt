@@ -6,6 +6,7 @@ use lib.ListN.{length}
 use lib.Seq.{set-out}
 use Rattle.line.specs.Line.{waiting}
 use Rattle.line.specs.Laws.{unmapped}
+use Rattle.accounts.specs.Rooms.{partOf}
 use Rattle.table.specs.Table.{view}
 use Rattle.table.specs.ViewLaws.{rooms-32, held-set}
 use Rattle.table.proofs.held.put.Statement.{statement}
@@ -15,14 +16,15 @@ all : (c : tie.Start) → length (c .args .t1 .rooms) ≡ 32
 all c = search (needs, unmapped)
 
 returns : tie.Need-returns
-returns c =
+returns c older =
     let a = c .before .args in
-    λ i. record { rooms = held-set (waiting (a .t1 .lines)) 0 (a .t1 .rooms) (a .place) (a .account) i; ports = a .t1 .ports }
+    let put = held-set (partOf older) (waiting (a .t1 .lines)) 0 (a .t1 .rooms) (a .place) (a .place) (a .account) (omega arith) in
+    λ i. record { rooms = put i; ports = a .t1 .ports }
 
 returns-2 : tie.Need-returns-2
-returns-2 c =
+returns-2 c older =
     let a = c .before .args in
-    let past = set-out (view (a .t1) .rooms) (a .place) _ (omega (arith, rooms-32 (a .t1) (all (c .before)), c .if1 .left)) in
+    let past = set-out (view (a .t1) older .rooms) (a .place) _ (omega (arith, rooms-32 (a .t1) older (all (c .before)), c .if1 .left)) in
     λ i. record { rooms = sym past i; ports = a .t1 .ports }
 
 pub put-spec : {M : Type 1} → statement M

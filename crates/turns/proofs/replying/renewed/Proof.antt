@@ -1,60 +1,70 @@
--- `renewed` meets its promise: refused as the turn and the new values are, or what the text says is offered.
-use mathlib.Core.Path.{_≡_, sym, ap, _∙_}
+-- `renewed` meets its promise: refused as the turn is; or as the values are, or what the text says is offered, and the seed is kept.
+use Prim.Native.Nat.{ℕ}
+use mathlib.Core.Path.{_≡_, refl, sym, ap, _∙_}
+use mathlib.Core.List.{List}
 use borrow.Author.Needs.{needs}
-use Rattle.refusal.specs.Laws.{first-refused, first-good, both-good}
-use Rattle.accounts.specs.Rooms.{Room, roomOf, free}
-use Rattle.accounts.specs.Accounts.{Proposal, newRoom, valuesChecked}
-use Rattle.turns.specs.TurnPart.{seen, refused}
+use lib.ListN.{length}
+use Rattle.refusal.specs.Laws.{first-refused, first-good}
+use Rattle.accounts.specs.Rooms.{partOf}
+use Rattle.accounts.specs.OlderBytes.{remembering}
+use Rattle.table.specs.declared.Replied.{Replied}
+use Rattle.turns.specs.TurnPart.{Said, seen, outcome, olderAfter, refused}
 use Rattle.turns.specs.Replied as spec
+use Rattle.turns.specs.RepliedLaws.{older-after, renewed-place}
 use Rattle.turns.proofs.replying.renewed.Statement.{statement}
 use Rattle.turns.proofs.replying.renewed.Tie as tie
 
-abbrev from : tie.After-check-renew → tie.Start
-from c = c .before .before .before .before .before
+sixteen : (c : tie.Start) → length (c .args .turn .account .seed) ≡ 16
+sixteen c = search needs
 
--- What was checked: the turn, and the values that were proposed.
-checked : (c : tie.After-check-renew) → c .check-renew .result
-    ≡ spec.renewChecked
-    (valuesChecked (from c .args .algorithm) (from c .args .count) (from c .args .seed .now) (roomOf (from c .args .turn .account)))
-    (seen (from c .args .turn))
-checked c = c .check-renew .ensures
-    ∙ ap (λ (p : Proposal). spec.renewChecked (p .checked) (seen (from c .args .turn))) (c .before .propose .ensures)
+abbrev from : tie.After-enum-told → tie.Start
+from c = c .before .before .before .before .before
 
 returns : tie.Need-returns
 unfolding spec.renewed
 returns c =
     let known = c .before .before in
-    let found = known .before .before in
-    let a = from found .args in
-    let t = seen (a .turn) in
-    let next = newRoom (a .turn .account .id) (a .algorithm) (a .count) (a .seed .now) (a .password .now) in
-    c .stays .ensures ∙ first-refused (refused t) _ _ (spec.renewRead (a .text .now) next t) (sym (checked found) ∙ known .why .given .1)
+    let a = known .before .before .before .before .before .args in
+    let t = seen (a .turn) (a .older .now) in
+    let values = spec.renewValues (a .algorithm) (a .count) (a .seed .now) (a .password .now) (a .text .now) t in (
+      c .stays .ensures (a .older .now) ∙ first-refused (refused t) _ _ values (known .checked .given .1),
+      (λ why e. refl, λ room d. refl),
+    )
 
 returns-2 : tie.Need-returns-2
 unfolding spec.renewed
 returns-2 c =
-    let told = c .before .before in
-    let found = told .before .before in
-    let a = from found .args in
-    let t = seen (a .turn) in
-    let next = newRoom (a .turn .account .id) (a .algorithm) (a .count) (a .seed .now) (a .password .now) in
-    let good = sym (checked found) ∙ told .enum-told .given .1 in
-    let room = ap (λ (p : Proposal). p .room) (found .before .propose .ensures)
-    ∙ sym (first-good (λ _. free) (valuesChecked (a .algorithm) (a .count) (a .seed .now) (t .account)) next
-    (both-good (t .checked) _ good .1)) in
-    c .renew-read .ensures
-    ∙ ap (λ (r : Room). spec.renewRead (a .text .now) r t) room
-    ∙ first-good (refused t) _ (spec.renewRead (a .text .now) next t) good
+    let kept = c .before .before in
+    let done = kept .before .before in
+    let told = done .before .before in
+    let start = from told in
+    let a = start .args in
+    let older = a .older .now in
+    let t = seen (a .turn) older in
+    let made = done .renew-values .result in
+    let values = spec.renewValues (a .algorithm) (a .count) (a .seed .now) (a .password .now) (a .text .now) t in
+    let place : made .place ≡ a .turn .place =
+    ap (λ (o : Said). o .place) (done .renew-values .ensures)
+    ∙ renewed-place (a .algorithm) (a .count) (a .seed .now) (a .password .now) (a .text .now) t in (
+      ap (outcome made) (kept .keep-seed .ensures) ∙ done .renew-values .ensures ∙ first-good (refused t) _ values (told .enum-told .given .1),
+      (
+        λ why e. kept .keep-seed .ensures ∙ ap (λ (r : Replied). olderAfter r older (remembering (a .turn .place) (a .turn .account) older)) e,
+        λ room d.
+            ap (λ (l : List ℕ). partOf l room) (kept .keep-seed .ensures)
+            ∙ older-after (made .answer) (a .turn .place) (a .turn .account) older (start .pre .0 (told .enum-told .given .1)) (start .pre .1) (sixteen start)
+            room (λ e. d (e ∙ sym place)),
+      ),
+    )
 
 pub renewed-spec : {M : Type 1} → statement M
 renewed-spec =
     tie.close
     (tie.spec
-    (λ c κs. search needs)
-    (λ c κs. search needs)
     (λ c. search needs)
     (λ c κs. search needs)
     returns
     (λ c. search needs)
-    (λ c κs. search needs)
+    (λ c κs. let told = c .before in (from told .pre .0 (told .enum-told .given .1), from told .pre .1))
+    (λ c κs. let told = c .before .before .before in (from told .pre .0 (told .enum-told .given .1), from told .pre .1))
+    (λ c. search needs)
     returns-2)

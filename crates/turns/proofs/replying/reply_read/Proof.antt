@@ -4,12 +4,12 @@ use mathlib.Core.Path.{_≡_, sym, ap, _∙_}
 use borrow.Author.Needs.{needs}
 use Rattle.refusal.specs.declared.Reading.{Reading}
 use Rattle.reply.specs.Reply.{readingOf}
-use Rattle.accounts.specs.Rooms.{Room}
+use Rattle.accounts.specs.Rooms.{Room, partOf}
 use Rattle.accounts.specs.Accounts.{lowered}
 use Rattle.table.specs.declared.Replied.{Replied}
-use Rattle.turns.specs.TurnPart.{Seen, Said, seen, stays, offered}
+use Rattle.turns.specs.TurnPart.{Seen, Said, seen, outcome, stays, offered}
 use Rattle.turns.specs.Replied.{read, replyRead}
-use Rattle.turns.specs.RepliedLaws.{read-refused}
+use Rattle.turns.specs.RepliedLaws.{read-refused, same-older}
 use Rattle.turns.proofs.replying.reply_read.Statement.{statement}
 use Rattle.turns.proofs.replying.reply_read.Tie as tie
 
@@ -18,27 +18,28 @@ next t password = offered password (lowered (t .account) password) t
 
 returns : tie.Need-returns
 unfolding replyRead
-returns c =
+returns c older =
     let refused = c .before in
     let said = refused .before .before .before in
     let a = said .before .before .args in
-    let t = seen (a .turn) in
-    c .stays .ensures
+    let t = seen (a .turn) older in
+    c .stays .ensures older
     ∙ ap (λ (x : Replied). stays x t) (refused .refusal-of .ensures)
     ∙ read-refused t (said .read .result) _ (next t) (refused .before .enum-told .given .1)
     ∙ ap (λ (r : Reading). read t r (next t)) (said .read .ensures)
 
 returns-2 : tie.Need-returns-2
 unfolding replyRead
-returns-2 c =
+returns-2 c older =
     let known = c .before .before .before in
     let said = known .before .before .before in
     let a = said .before .before .args in
-    let t = seen (a .turn) in
+    let t = seen (a .turn) older in
     let password = known .before .reading .given .0 .0 in
     let right : readingOf (a .text .now) ≡ Reading.Password password = sym (said .read .ensures) ∙ known .before .reading .given .1 in
-    c .offer .ensures
-    ∙ ap (λ (r : Room). offered password r t) (c .before .lower .ensures)
+    sym (ap (outcome (c .offer .result)) (same-older (c .offer .result .answer) older))
+    ∙ c .offer .ensures older older
+    ∙ ap (λ (r : Room). offered password r t) (c .before .lower .ensures (partOf older (a .turn .place)))
     ∙ sym (ap (λ (r : Reading). read t r (next t)) right)
 
 pub reply-read-spec : {M : Type 1} → statement M

@@ -13,12 +13,12 @@ pub check-account-spec : {M : Type 1} → statement M
 check-account-spec =
     tie.close
     (tie.spec
-    (λ c. first-fails (accountChecks (roomOf (c .before .before .args .account))) 0 _ tt (must-false (ap not (eq-eqb _ _ (c .if1 .taken)))))
-    (λ c.
+    (λ c part. first-fails (accountChecks (roomOf (c .before .before .args .account) part)) 0 _ tt (must-false (ap not (eq-eqb _ _ (c .if1 .taken)))))
+    (λ c part.
     let a = c .before .before .before .before .args .account in
-    first-fails (accountChecks (roomOf a)) 1 _ (must-true _ (ap not (ne-eqb _ _ (c .before .before .if1 .left))), tt)
+    first-fails (accountChecks (roomOf a part)) 1 _ (must-true _ (ap not (ne-eqb _ _ (c .before .before .if1 .left))), tt)
     (must-false (le-ltb 1 (a .count) (omega (arith, c .if2 .taken)))))
-    (λ c.
+    (λ c part.
     let a = c .before .before .before .before .args .account in
-    none-fails (accountChecks (roomOf a))
+    none-fails (accountChecks (roomOf a part))
     (must-true _ (ap not (ne-eqb _ _ (c .before .before .if1 .left))), (must-true _ (lt-ltb 1 (a .count) (omega (arith, c .if2 .left))), tt))))

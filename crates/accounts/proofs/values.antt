@@ -1,0 +1,2 @@
+-- What the proofs of `values`' functions share.
+pub mod Good

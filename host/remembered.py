@@ -1,0 +1,118 @@
+"""What scripts show of the seeds that accounts remember (R-5): read from calls and answers; the model is asked for nothing but a word's bytes."""
+import collections
+
+from model import text_in
+
+PLACES = 8
+# what is answered to a renewal that may name a seed which is taken later
+REFUSALS = ("21", "30", "31", "32", "33", "51", "60", "61", "62", "63")
+# what can be shown: a renewal's answer, and how many renewals before the account took that seed; what else is true of the seed; what a dump has
+KINDS = [*(f"63, {back} back" for back in range(PLACES)), "ok, 8 back", "ok, 9 back",
+         "63 in upper case", "63 under the other algorithm", "63 after a reply", *(f"ok after {number}" for number in REFUSALS),
+         "ok, of an account removed under this id", "ok, of another removed from this room", "ok, of the table before", "ok, of another account",
+         "ok, begins with a remembered one", "ok, begins a remembered one",
+         *(f"dump, {number} remembered" for number in range(1, PLACES + 1)), "dump, two with eight"]
+
+
+class Account:
+    """The seeds that an account took, newest first, each with its algorithm; `gone` has what isn't its own, by what it is of."""
+
+    def __init__(self, seed, algorithm, gone):
+        self.taken, self.gone = [(seed, algorithm)], gone
+        self.refused = collections.defaultdict(set)  # by the seed, the refusals of renewals that named it
+        self.replied = set()  # the seeds in whose time a reply was accepted, or in that of a newer one
+
+    def seeds(self):
+        return [seed for seed, _ in self.taken]
+
+    def remembered(self):
+        return self.seeds()[:PLACES]
+
+    def shown(self, answer, seed, algorithm, others):
+        """What a renewal to that seed shows, by its answer; `seed` is as it was given."""
+        folded, remembered = seed.lower(), self.remembered()
+        back = self.seeds().index(folded) if folded in self.seeds() else None
+        if back is not None:
+            yield f"{answer}, {back} back"
+        if answer == "63" and back:
+            yield from ["63 in upper case"] * (seed != folded)
+            yield from ["63 under the other algorithm"] * (algorithm != self.taken[back][1])
+            yield from ["63 after a reply"] * (folded in self.replied)
+        if answer == "ok":
+            yield from (f"ok after {number}" for number in self.refused[folded])
+            yield from (f"ok, of {whose}" for whose, seeds in [*self.gone.items(), ("another account", others)] if back is None and folded in seeds)
+            yield from ["ok, begins with a remembered one"] * any(folded.startswith(each) for each in remembered)
+            yield from ["ok, begins a remembered one"] * any(each.startswith(folded) for each in remembered)
+
+
+class Reader:
+    """The accounts, by their ids, and for which account each port joined last."""
+
+    def __init__(self):
+        self.seen = collections.Counter()
+        self.accounts, self.joined = {}, {}
+        self.removed, self.room, self.before = {}, (), ()
+
+    def read(self, line, answer):
+        name, *words = line.split(" ")
+        number = answer.split(" ")[1 if answer.startswith("no") else 0]
+        if name == "renew" and number in ("ok", *REFUSALS):
+            self.renew(number, *words)
+        elif number == "ok" and name in ("new", "enrol", "remove", "join", "reply"):
+            getattr(self, name)(*words)
+        elif number == "ok" and name == "dump":
+            self.dump(answer)
+
+    def new(self):
+        self.before = self.remembered(self.accounts.values())
+        self.accounts, self.removed, self.room = {}, {}, ()
+
+    def enrol(self, id, algorithm, _count, seed, _password):
+        own = self.removed.get(int(id), ())
+        gone = {"an account removed under this id": own, "another removed from this room": () if self.room is own else self.room,
+                "the table before": self.before}
+        self.accounts[int(id)] = Account(text_in(seed).lower(), int(algorithm), gone)
+        self.room = ()
+
+    def remove(self, id):
+        """Of 32 accounts one is removed: the next that is enrolled has its room, if no other is removed before."""
+        full = len(self.accounts) == 32
+        self.removed[int(id)] = self.accounts.pop(int(id)).remembered()
+        self.room = self.removed[int(id)] if full else ()
+
+    def join(self, port, id):
+        self.joined[int(port)] = int(id)
+
+    def reply(self, port, _text):
+        account = self.accounts[self.joined[int(port)]]
+        account.replied |= {*account.seeds()}
+
+    def renew(self, answer, port, algorithm, _count, seed, _password, _text):
+        """An answer that isn't 55 or 59 is of the account for which the port joined last."""
+        account, given = self.accounts[self.joined[int(port)]], text_in(seed)
+        others = self.remembered(each for each in self.accounts.values() if each is not account)
+        self.seen.update(account.shown(answer, given, int(algorithm), others))
+        if answer != "ok":
+            account.refused[given.lower()].add(answer)
+            return
+        account.taken.insert(0, (given.lower(), int(algorithm)))
+        account.refused.pop(given.lower(), None)
+        account.replied.discard(given.lower())
+
+    def dump(self, answer):
+        shown = answer.split(" ")[1].removeprefix("A=")
+        numbers = [len(account.split(":")[4].split("/")) for account in shown.split(",") if account != "-"]
+        self.seen.update(f"dump, {number} remembered" for number in numbers)
+        self.seen["dump, two with eight"] += numbers.count(PLACES) > 1
+
+    @staticmethod
+    def remembered(accounts):
+        return {seed for account in accounts for seed in account.remembered()}
+
+
+def kinds_in(lines, answers):
+    """How often each kind is shown."""
+    reader = Reader()
+    for line, answer in zip(lines, answers, strict=True):
+        reader.read(line, answer)
+    return reader.seen
