@@ -107,13 +107,13 @@ pub extern "C" fn painted_renew(
     let mut table = full(room, algorithm, stored);
     table.rooms[(room % 32) as usize] = account(2, algorithm, stored);
     let mut number = 0;
-    let mut k = 0;
-    while k < times {
+    let mut n = 0;
+    while n < times {
         let made = login::renew(table, older, port, algorithm, count, seed, password, text);
         let answer = made.answer;
         number = number_of(answer);
         table = made.table;
-        k += 1;
+        n += 1;
     }
     number
 }
