@@ -75,7 +75,7 @@ SHORT = {
     "reply-hex": "reply in hex, 16 bytes, read",
     "challenge-empty": "challenge of 0 bytes, refused (20)",
     "challenge-short": "challenge of 12 bytes read",
-    "challenge-long": "challenge of 31 bytes read",
+    "challenge-long": "challenge of 35 bytes, with the mark, read",
     "written-short": "challenge of 15 bytes written",
     "written-long": "challenge of 31 bytes written",
 }

@@ -21,7 +21,8 @@ Row = collections.namedtuple("Row", "title left")
 # Each call by its letter, a capital one for accounts with SHA-1. Port 0 is in front of three others, all for one account; Join finds the three; in the
 # rows of four lines each port is in front of its own, and for Leave has been for a tick, so that the turns of the others show that they go on. A port in
 # line is never shut, so Tick has another row with a line. Renew has one for an account with its first seed, and one for an account with eight, all as
-# long as the new one and like it up to the last of 16 characters, so that none is passed over. With an account all are accepted but Enrol at 32 (53).
+# long as the new one and like it up to the last of 16 characters, so that none is passed over; the extended reply of type init-word is a renewal of that
+# account too. With an account all are accepted but Enrol at 32 (53).
 # What is left is: ports in line (of a challenge its first letter, o), the turns of the first of them and of the fourth, port 0's wrong run, port 3's shut
 # ticks (of a renewal how long the seed is that the account had before).
 CALLS = {
@@ -39,6 +40,8 @@ CALLS = {
     "w": Row("Reply, in words", "3 60 0 0 0"),
     "H": Row("Reply, SHA-1, in hex", "3 60 0 0 0"),
     "W": Row("Reply, SHA-1, in words", "3 60 0 0 0"),
+    "g": Row("Reply, extended, hex", "3 60 0 0 0"),
+    "y": Row("Reply, extended, init-word", "3 60 0 0 16"),
     "n": Row("Renew, the first time", "3 60 0 0 10"),
     "o": Row("Renew, eight seeds remembered", "3 60 0 0 16"),
 }
@@ -48,9 +51,9 @@ NO_LINE = "0 0 0 0 0"
 WITH_LINES = {"t": "13", "u": "13", "f": "3", "m": "3"}
 # Each Reply, with the one hash that it does, to a multiple of which it is held, and what is aimed for; MD5's and SHA-1's
 MD5, SHA1 = "s", "S"
-REPLIES = {"h": (MD5, 5, 3), "w": (MD5, 5, 3), "H": (SHA1, 5, None), "W": (SHA1, 5, None)}
+REPLIES = {"h": (MD5, 5, 3), "w": (MD5, 5, 3), "g": (MD5, 5, 3), "H": (SHA1, 5, None), "W": (SHA1, 5, None)}
 # those that hash: every other call is held to one hash of MD5 and the copying
-HASHING = [*REPLIES, "n", "o"]
+HASHING = [*REPLIES, "y", "n", "o"]
 # the loop without a call, in which the table is only copied, with what that has
 LOOP, FOUND = "x", "4 60 60 0 0"
 
@@ -150,7 +153,7 @@ def table_bytes():
 
 
 def older_bytes():
-    """The bytes for the older seeds of all accounts, which a controller keeps beside its table: by the head of Renew, which is lent them."""
+    """The bytes for the older seeds of all accounts, which a controller keeps beside its table: by the head of Renew, which is lent them as Reply is."""
     head = re.search(r"^pub fn renew\(.*?older: &mut \[u8; (\d+)\]", (harness.ROOT / "crates" / "turns" / "src" / "lib.rt").read_text(), re.M | re.S)
     return int(head[1])
 
@@ -158,7 +161,7 @@ def older_bytes():
 def kept_bytes():
     """What a controller keeps, in words."""
     of_table, of_older = table_bytes(), older_bytes()
-    return f"a Table has {of_table:,} bytes, and the older seeds, which are lent to Renew, have {of_older:,}: {of_table + of_older:,} in all"
+    return f"a Table has {of_table:,} bytes, and the older seeds, which are lent to Reply and Renew, have {of_older:,}: {of_table + of_older:,} in all"
 
 
 def call_row(call, calls, limit):

@@ -47,7 +47,7 @@ static const row rows[] = {
     {"reply-hex", "85c43ee03857765b", reply_read, 0x85c43ee03857765b},
     {"challenge-empty", "", challenge_read, 20},
     {"challenge-short", "otp-md5 0 t\n", challenge_read, 12},
-    {"challenge-long", "otp-sha1 9999 ABCDEFGHijkl6789\n", challenge_read, 31},
+    {"challenge-long", "otp-sha1 9999 ABCDEFGHijkl6789 ext\n", challenge_read, 35},
     {"written-short", "t", challenge_written, 15},
     {"written-long", "ABCDEFGHijkl6789", challenge_written, 31},
 };

@@ -104,12 +104,28 @@ static void call_write_hex(void)
     }
 }
 
-/* The longest challenge and the shortest, each refusal. */
+/* Each type, with short passwords and long ones, room and none; each refusal. */
+static void call_write_extended(void)
+{
+    for (uint32_t type = 0; type <= LIFT_INIT_WORD + 1; type++)
+        for (size_t i = 0; i < LENGTH_OF(passwords); i++) {
+            lift_write_extended(type, passwords[i], LIFT_SHA1, 9999, BYTES("ABCDEFGHijkl6789"), passwords[i], buf, 96);
+            lift_write_extended(type, passwords[i], LIFT_MD5, 2, BYTES("t"), passwords[i], buf, 10);
+            lift_write_extended(type, passwords[i], LIFT_MD5, 1, BYTES("t"), 0, buf, 96);
+            lift_write_extended(type, passwords[i], 3, 2, BYTES("t"), 0, buf, 96);
+            lift_write_extended(type, passwords[i], LIFT_MD5, 2, BYTES(""), 0, buf, 96);
+            lift_write_extended(type, passwords[i], LIFT_MD5, 2, BYTES("te_st"), 0, buf, 96);
+        }
+}
+
+/* The longest challenge and the shortest, with the mark and without, each refusal. */
 static void call_read_challenge(void)
 {
     lift_read_challenge(BYTES("otp-md5 9999 ABCDEFGHijkl6789 "));
     lift_read_challenge(BYTES("otp-sha1 9999 ABCDEFGHijkl6789 "));
     lift_read_challenge(BYTES("otp-md5 \t0\t t\n"));
+    lift_read_challenge(BYTES("otp-sha1 9999 ABCDEFGHijkl6789 \t ext,a,b\n"));
+    lift_read_challenge(BYTES("otp-md5 1 t EXT\n"));
     lift_read_challenge(BYTES("OTP-md5 1 t\n"));
     lift_read_challenge(BYTES("otp-md4 1 t\n"));
     lift_read_challenge(BYTES("otp-md5 01 t\n"));
@@ -203,6 +219,7 @@ int main(void)
     measure("lift_read_reply", call_read_reply);
     measure("lift_write_hex", call_write_hex);
     measure("lift_write_words", call_write_words);
+    measure("lift_write_extended", call_write_extended);
     measure("lift_read_challenge", call_read_challenge);
     measure("lift_write_challenge", call_write_challenge);
     measure("lift_write_card", call_write_card);

@@ -43,6 +43,18 @@ static const struct reply {
     {LIFT_MD5, 0, BYTES("XQ KID MASH DEAD DUAL OAF"), LIFT_WORD_UNKNOWN},
     {LIFT_MD5, 0, BYTES("FOWL KID MASH DEAD DUAL OAK"), LIFT_PAIR_SUM_WRONG},
     {LIFT_MD5, 0, BYTES(""), LIFT_REPLY_UNREAD},
+    {LIFT_MD5, 0, BYTES("hex:" MD5_HEX), 0},
+    {LIFT_SHA1, 0, BYTES("word:" SHA1_WORDS), 0},
+    {LIFT_MD5, 0, BYTES("init-hex:" MD5_HEX ":md5 9999 " NEW ":" WRONG), 0},
+    {LIFT_SHA1, 0, BYTES("init-word:" SHA1_WORDS ":sha1 2 t:" MD5_WORDS), 0},
+    {LIFT_SHA1, 0, BYTES("init-word:" SHA1_WORDS BLANKS_129 ":sha1 9999 " NEW ":" MD5_WORDS BLANKS BLANKS " "), 0},
+    {LIFT_SHA1, 0, BYTES("init-word:" MD5_WORDS ":sha1 9999 " NEW ":" MD5_WORDS), LIFT_REPLY_WRONG},
+    {LIFT_MD5, 0, BYTES("init-hex:" MD5_HEX ":md5 9999 " OLDEST ":" WRONG), LIFT_SEED_SAME},
+    {LIFT_MD5, 0, BYTES("init-word:" MD5_WORDS ":md5 9999 " NEW ":XQ KID MASH DEAD DUAL OAF"), LIFT_WORD_UNKNOWN},
+    {LIFT_MD5, 0, BYTES("init-hex:" MD5_HEX ":md5 10000 " NEW ":" WRONG), LIFT_COUNT_OUTSIDE},
+    {LIFT_MD5, 0, BYTES("HEX:" MD5_HEX), LIFT_TYPE_UNKNOWN},
+    {LIFT_MD5, 0, BYTES("hex:" MD5_HEX ":"), LIFT_PARTS_WRONG},
+    {LIFT_MD5, 0, BYTES("hex:" BLANKS_129 BLANKS_129), LIFT_REPLY_LONG},
     {LIFT_MD5, 1, BYTES(MD5_HEX), LIFT_PORT_NOT_IN_FRONT},
     {LIFT_MD5, 2, BYTES(MD5_HEX), LIFT_PORT_NOT_IN_LINE},
     {LIFT_MD5, 4, BYTES(MD5_HEX), LIFT_PORT_UNKNOWN},
@@ -96,8 +108,9 @@ void call_reply(void)
 {
     for (size_t i = 0; i < LENGTH_OF(replies); i++) {
         const struct reply *each = &replies[i];
+        remember_seven();
         wrong += each->due != painted_reply(1, LAST, each->algorithm, stored_by(each->algorithm), each->port,
-                                            each->text, each->len);
+                                            each->text, each->len, older);
     }
 }
 

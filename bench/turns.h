@@ -13,7 +13,7 @@
  * makes its call that many times, and gives the last answer: 0, or the number
  * of the refusal. */
 uint32_t painted_reply(uint32_t times, uint8_t room, uint32_t algorithm, uint64_t stored, uint8_t port,
-                       const uint8_t *text, size_t text_len);
+                       const uint8_t *text, size_t text_len, uint8_t older[3808]);
 uint32_t painted_renew(uint32_t times, uint8_t room, uint32_t algorithm, uint64_t stored, uint8_t port,
                        const uint8_t *text, size_t text_len, uint8_t older[3808], uint16_t count,
                        const uint8_t *seed, size_t seed_len, const uint8_t password[8]);

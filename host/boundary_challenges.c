@@ -3,6 +3,17 @@
 
 #include <stdio.h>
 
+/* The fields stand where the panel firmware looks for them. */
+_Static_assert(sizeof(lift_challenge) == 40 && offsetof(lift_challenge, seed_at) == 0 &&
+                   offsetof(lift_challenge, seed_len) == 8 && offsetof(lift_challenge, used) == 16 &&
+                   offsetof(lift_challenge, count) == 24 && offsetof(lift_challenge, algorithm) == 28 &&
+                   offsetof(lift_challenge, ext) == 32 && offsetof(lift_challenge, refusal) == 36,
+               "lift_challenge");
+_Static_assert(sizeof(lift_reading) == 16 && offsetof(lift_reading, refusal) == 8 &&
+                   offsetof(lift_reading, marks) == 12,
+               "lift_reading");
+_Static_assert(sizeof(lift_written) == 16 && offsetof(lift_written, refusal) == 8, "lift_written");
+
 /* Names of no algorithm: none, other case, too much or too little of one, two, others. */
 static const char *const wrong_names[] = {
     "", "m", "md", "md51", "MD5", "Md5", "md4", "md6", "-md5", "md5-", "md5sha1", "sha1md5",
@@ -20,14 +31,20 @@ static const char *otp(const char *name, const char *rest)
 static bool challenge_refused(lift_challenge c, uint32_t number)
 {
     return c.refusal == number && c.algorithm == 0 && c.count == 0 && c.seed_at == 0 &&
-           c.seed_len == 0 && c.used == 0;
+           c.seed_len == 0 && c.used == 0 && c.ext == 0;
+}
+
+static bool challenge_marked(lift_challenge c, uint32_t number, uint32_t count, size_t at, size_t len,
+                             size_t used, uint32_t ext)
+{
+    return c.refusal == 0 && c.algorithm == number && c.count == count && c.seed_at == at &&
+           c.seed_len == len && c.used == used && c.ext == ext;
 }
 
 static bool challenge_read(lift_challenge c, uint32_t number, uint32_t count, size_t at, size_t len,
                            size_t used)
 {
-    return c.refusal == 0 && c.algorithm == number && c.count == count && c.seed_at == at &&
-           c.seed_len == len && c.used == used;
+    return challenge_marked(c, number, count, at, len, used, 0);
 }
 
 static lift_challenge challenge(int side, const char *bytes)
@@ -60,6 +77,27 @@ static void check_read_challenge(int side, const algorithm *a)
     CHECK(challenge_refused(challenge(side, otp(name, " 487 dog2\t")), 25));
 }
 
+/* What may stand behind a seed, and how many bytes of it are used: more than one
+ * where it is the mark. */
+static const struct {
+    const char *rest;
+    size_t used;
+} marks[] = {
+    {" ext\n", 5}, {" ext ", 5}, {" \t ext\nmore", 7}, {" ext,\n", 6}, {" ext,a,b c", 9}, {" ext,a\r\n", 8},
+    {" ext", 1}, {" ext\t", 1}, {" ext\t\n", 1}, {" ext\r\n", 1}, {" EXT\n", 1}, {" extra\n", 1}, {" ext;a\n", 1},
+    {" ext,a", 1}, {" a ext\n", 1}, {"\next\n", 1}, {" \next\n", 1}, {" e", 1}, {" ", 1}, {"\n", 1}};
+
+static void check_marks(int side, const algorithm *a)
+{
+    size_t opening = strlen(otp(a->name, " 487 dog2"));
+    for (size_t i = 0; i < sizeof marks / sizeof *marks; i++) {
+        char rest[32];
+        CHECK((size_t)snprintf(rest, sizeof rest, " 487 dog2%s", marks[i].rest) < sizeof rest);
+        CHECK(challenge_marked(challenge(side, otp(a->name, rest)), a->number, 487, opening - 4, 4,
+                               opening + marks[i].used, marks[i].used > 1));
+    }
+}
+
 /* 20 and 21: a wrong name is refused where a count follows, and where the text ends. */
 static void check_read_challenge_opening(int side)
 {
@@ -73,13 +111,18 @@ static void check_read_challenge_opening(int side)
     }
 }
 
-/* No length is too long: what stands after the terminator isn't looked at. */
+/* No length is too long: what stands after the terminator is looked at for the
+ * mark alone. */
 static void check_read_challenge_large(void)
 {
     size_t len;
     uint8_t *large = beyond_32_bits(3, &len);
     memcpy(large, "otp-md5 487 dog2\n", 17);
     CHECK(challenge_read(lift_read_challenge(large, len), LIFT_MD5, 487, 12, 4, 17));
+    memcpy(large, "otp-md5 487 dog2 ext,", 21);
+    memset(large + 21, 'a', FIELD);
+    large[21 + FIELD] = '\n';
+    CHECK(challenge_marked(lift_read_challenge(large, len), LIFT_MD5, 487, 12, 4, 22 + FIELD, 1));
     unmap(large, len);
     CHECK(challenge_refused(lift_read_challenge(NULL, 0), 20));
 }
@@ -227,6 +270,8 @@ void check_challenges(void)
     for (int side = 0; side < SIDES; side++) {
         for (int at = 0; at < ALGORITHMS; at++)
             check_read_challenge(side, &algorithms[at]);
+        for (int at = 0; at < ALGORITHMS; at++)
+            check_marks(side, &algorithms[at]);
         check_read_challenge_opening(side);
     }
     check_read_challenge_large();

@@ -26,6 +26,8 @@ static void check_read_reply(int side)
     CHECK(reads(reply_text(side, "YOKE YOKE YOKE YOKE YOKE YEAR"), UINT64_MAX));
     CHECK(refuses(reply_text(side, "FOWL KID MASH DEAD DUAL OAK"), 32, 0));
     CHECK(refuses(reply_text(side, "FOWL KID MASH DEAD DUAL"), 33, 0));
+    CHECK(refuses(reply_text(side, "hex:85c43ee03857765b"), 33, 0)); /* no plain text */
+    CHECK(refuses(reply_text(side, "word:FOWL KID MASH DEAD DUAL OAF"), 33, 0));
     CHECK(refuses(reply_text(side, ""), 33, 0));
     CHECK(refuses(lift_read_reply(NULL, 0), 33, 0));
     for (uint32_t marks = 1; marks <= 63; marks++) {

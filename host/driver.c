@@ -19,7 +19,9 @@ typedef struct {
     size_t len;
 } word;
 
-/* Kinds of words: t text, p password, a algorithm, n number, r room. */
+/* Kinds of words: t text, p password, a algorithm, n number, r room, l type of
+ * a login, i type of a renewal. A name may be that of two calls, of which the
+ * words say which it is. */
 typedef struct {
     const char *name;
     const char *kinds;
@@ -126,10 +128,10 @@ static void answer_chal(const word *given)
 {
     lift_challenge c = lift_read_challenge(given[0].bytes, given[0].len);
     bool clean = c.refusal == 0 || (c.algorithm == 0 && c.count == 0 && c.seed_at == 0 &&
-                                    c.seed_len == 0 && c.used == 0);
+                                    c.seed_len == 0 && c.used == 0 && c.ext == 0);
     if (c.refusal == 0)
-        printf("ok %" PRIu32 " %" PRIu32 " %zu %zu %zu", c.algorithm, c.count, c.seed_at,
-               c.seed_len, c.used);
+        printf("ok %" PRIu32 " %" PRIu32 " %zu %zu %zu %" PRIu32, c.algorithm, c.count, c.seed_at,
+               c.seed_len, c.used, c.ext);
     else
         printf("no %" PRIu32, c.refusal);
     puts(clean ? "" : " dirty");
@@ -140,6 +142,22 @@ static void answer_wchal(const word *given)
     uint8_t *buf = lent();
     print_written(buf, lift_write_challenge((uint32_t)given[0].number, given[1].bytes, given[1].len,
                                             (uint32_t)given[2].number, buf, given[3].number));
+}
+
+static void answer_login(const word *given)
+{
+    uint8_t *buf = lent();
+    print_written(buf, lift_write_extended((uint32_t)given[0].number, given[1].number, 0, 0, NULL, 0,
+                                           0, buf, given[2].number));
+}
+
+static void answer_renewal(const word *given)
+{
+    uint8_t *buf = lent();
+    print_written(buf, lift_write_extended((uint32_t)given[0].number, given[1].number,
+                                           (uint32_t)given[2].number, (uint32_t)given[3].number,
+                                           given[4].bytes, given[4].len, given[5].number,
+                                           buf, given[6].number));
 }
 
 static void answer_card(const word *given)
@@ -158,6 +176,8 @@ static const call calls[] = {
     {"words", "pr", answer_words},
     {"chal", "t", answer_chal},
     {"wchal", "atnr", answer_wchal},
+    {"wext", "lpr", answer_login},
+    {"wext", "ipantpr", answer_renewal},
     {"card", "ttnr", answer_card},
 };
 
@@ -212,9 +232,20 @@ static bool take_text(const char *text, int at, word *out)
     return true;
 }
 
+/* The name of one of two types. */
+static bool take_type(const char *text, uint32_t type, const char *name, uint32_t other,
+                      const char *other_name, word *out)
+{
+    bool first = strcmp(text, name) == 0;
+    out->number = first ? type : other;
+    return first || strcmp(text, other_name) == 0;
+}
+
 static bool take_word(char kind, const char *text, int at, word *out)
 {
     switch (kind) {
+    case 'l': return take_type(text, LIFT_HEX, "hex", LIFT_WORD, "word", out);
+    case 'i': return take_type(text, LIFT_INIT_HEX, "init-hex", LIFT_INIT_WORD, "init-word", out);
     case 'a': return take_number(text, MOST_ALGORITHM, out);
     case 'n': return take_number(text, MOST_NUMBER, out);
     case 'r': return take_number(text, MOST_ROOM, out);
@@ -223,26 +254,34 @@ static bool take_word(char kind, const char *text, int at, word *out)
     }
 }
 
+/* Whether a call takes those words. */
+static bool takes(const call *c, char *const *words, size_t count, word *given)
+{
+    if (strlen(c->kinds) != count)
+        return false;
+    for (size_t at = 0; at < count; at++)
+        if (!take_word(c->kinds[at], words[at], (int)at, &given[at]))
+            return false;
+    return true;
+}
+
 /* Answers a line that is a call, and says whether it was one. */
 static bool answer_call(char *line)
 {
     word given[MOST_WORDS];
-    char *rest = line;
+    char *words[MOST_WORDS], *rest = line;
     const char *name = strsep(&rest, " ");
-    for (size_t i = 0; i < sizeof calls / sizeof *calls; i++) {
-        if (strcmp(name, calls[i].name) != 0)
-            continue;
-        const char *kinds = calls[i].kinds;
-        for (int at = 0; kinds[at] != '\0'; at++) {
-            const char *text = strsep(&rest, " ");
-            if (text == NULL || !take_word(kinds[at], text, at, &given[at]))
-                return false;
-        }
-        if (rest != NULL)
+    size_t count = 0;
+    for (; rest != NULL; count++) {
+        if (count == MOST_WORDS)
             return false;
-        calls[i].answer(given);
-        return true;
+        words[count] = strsep(&rest, " ");
     }
+    for (size_t i = 0; i < sizeof calls / sizeof *calls; i++)
+        if (strcmp(name, calls[i].name) == 0 && takes(&calls[i], words, count, given)) {
+            calls[i].answer(given);
+            return true;
+        }
     return false;
 }
 

@@ -8,7 +8,7 @@
 #include <stddef.h>
 #include <stdint.h>
 
-enum { FIELD = 128 * 1024, FIELDS = 4, MOST_ROOM = 8192 };
+enum { FIELD = 128 * 1024, FIELDS = 7, MOST_ROOM = 8192 };
 
 /* Makes FIELDS fields of FIELD bytes, each between two closed pages. */
 void make_fields(void);

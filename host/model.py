@@ -1,8 +1,8 @@
 """An independent model: the rules of documents 01 and 02 in Python.
 
 It shares no code with the proved crates: hashlib gives the digests, and all
-else is written from the two documents and RFC 2289. A rule that refuses raises
-Refused. `python3 host/model.py < SCRIPT` answers a script of replay lines.
+else is written from the two documents and RFC 2289, and for R-6 from RFC 2243's
+example of a reply, which document 02 names. A rule that refuses raises Refused. `python3 host/model.py < SCRIPT` answers a script of replay lines.
 """
 import hashlib
 import pathlib
@@ -155,15 +155,36 @@ def read_words(tokens):
     return password
 
 
-def read_reply(text):
-    """30; six tokens of one to four letters are words; sixteen digits; 33."""
-    refuse_if(len(text) > 128, 30)
-    tokens = [token for token in re.split(rb"[ \t\r\n]", text) if token]
-    if len(tokens) == 6 and all(re.fullmatch(rb"[A-Za-z]{1,4}", t) for t in tokens):
-        return read_words(tokens)
-    digits = b"".join(tokens)
+WHITE = b" \t\r\n"
+
+
+def tokens_in(text):
+    """What stands between white space of the four kinds."""
+    return [token for token in re.split(rb"[ \t\r\n]", text) if token]
+
+
+def is_six(tokens):
+    """Six tokens of one to four letters."""
+    return len(tokens) == 6 and all(re.fullmatch(rb"[A-Za-z]{1,4}", token) for token in tokens)
+
+
+def read_hex(text):
+    """Sixteen digits, else 33."""
+    digits = b"".join(tokens_in(text))
     refuse_if(not re.fullmatch(rb"[0-9A-Fa-f]{16}", digits), 33)
     return int(digits, 16)
+
+
+def read_six(text):
+    """Six tokens of letters, else 33."""
+    refuse_if(not is_six(tokens_in(text)), 33)
+    return read_words(tokens_in(text))
+
+
+def read_reply(text):
+    """30; six tokens of one to four letters are words; sixteen digits; 33. A colon is neither letter nor digit."""
+    refuse_if(len(text) > 128, 30)
+    return read_six(text) if is_six(tokens_in(text)) else read_hex(text)
 
 
 # 01, Challenges
@@ -179,8 +200,17 @@ def after_blanks(text, at):
     return re.compile(rb"[ \t]*").match(text, at).end()
 
 
+def marked_to(text, at):
+    """02, R-6: behind the seed and its space, past blanks, `ext`, alone or with a comma list, and a space or newline straight after it: the place after
+    that byte. 0 where there is no mark."""
+    start = after_blanks(text, at)
+    token = token_at(text, start)
+    end = start + len(token)
+    return end + 1 if token.split(b",")[0] == b"ext" and text[end:end + 1] in (b" ", b"\n") else 0
+
+
 def read_challenge(text):
-    """Steps 1 to 5: the algorithm, the count, where the seed starts, its length, the bytes used."""
+    """Steps 1 to 5: the algorithm, the count, where the seed starts, its length, the bytes used; and 1 for the mark, else 0."""
     refuse_if(text[:4] != b"otp-", 20)
     name = token_at(text, 4)
     algorithm = algorithm_named(name)
@@ -192,12 +222,13 @@ def read_challenge(text):
     check_seed(seed)
     end = seed_at + len(seed)
     refuse_if(text[end:end + 1] not in (b" ", b"\n"), 25)
-    return algorithm, int(digits), seed_at, len(seed), end + 1
+    marked = marked_to(text, end + 1) if text[end:end + 1] == b" " else 0
+    return algorithm, int(digits), seed_at, len(seed), marked or end + 1, int(marked > 0)
 
 
-def challenge_text(algorithm, seed, count):
-    """Single spaces, the seed in lower case and a newline."""
-    return b"otp-%s %d %s\n" % (NAMES[algorithm], count, seed.lower())
+def challenge_text(algorithm, seed, count, mark=b""):
+    """Single spaces, the seed in lower case and a newline, before which the mark may stand."""
+    return b"otp-%s %d %s%s\n" % (NAMES[algorithm], count, seed.lower(), mark)
 
 
 def write_challenge(algorithm, seed, count, room):
@@ -208,13 +239,69 @@ def write_challenge(algorithm, seed, count, room):
     return into_room(challenge_text(algorithm, seed, count), room)
 
 
+# 02, R-6: extended replies
+
+
+# each type's reader and writer of passwords; those of a renewal have `init-` before the name of the others
+READERS, WRITERS = {b"hex": read_hex, b"word": read_six}, {b"hex": hex_of, b"word": words_of}
+INIT = b"init-"
+TYPES = [*READERS, *(INIT + name for name in READERS)]
+
+
+def is_init(kind):
+    return kind.startswith(INIT)
+
+
+def check_new(algorithm, count, seed):
+    """51, 21, 23, 24: what an enrolment and a renewal are told."""
+    refuse_if(not 2 <= count <= 9999, 51)
+    check_algorithm(algorithm)
+    check_seed(seed)
+
+
+def parts_of(text):
+    """30 over 256 bytes, 34, 35: the type, and the parts between colons after it, one or for `init` types three."""
+    refuse_if(len(text) > 256, 30)
+    kind, *parts = text.split(b":")
+    refuse_if(kind not in TYPES, 34)
+    refuse_if(len(parts) != (3 if is_init(kind) else 1), 35)
+    return kind, parts
+
+
+def parameters_of(part):
+    """Algorithm, count and all that follows it, the seed; a name that isn't known, and what is no count, is a number that is refused later."""
+    name, digits, seed = [*re.split(rb"[ \t\r\n]+", part.strip(WHITE), maxsplit=2), b"", b""][:3]
+    number = next((number for number, known in NAMES.items() if known == name), 0)
+    return number, int(digits) if re.fullmatch(rb"0|[1-9][0-9]{0,3}", digits) else 0, seed
+
+
+def extended_text(kind, password, values=None, new=None):
+    """Type, colon, password; for `init` types then colon, algorithm, space, count, space, seed as given, colon, new password."""
+    spelt = WRITERS[kind.removeprefix(INIT)]
+    if not is_init(kind):
+        return b"%s:%s" % (kind, spelt(password))
+    algorithm, count, seed = values
+    return b"%s:%s:%s %d %s:%s" % (kind, spelt(password), NAMES[algorithm], count, seed, spelt(new))
+
+
+def write_login(kind, password, room):
+    """40."""
+    return into_room(extended_text(kind, password), room)
+
+
+def write_renewal(kind, password, algorithm, count, seed, new, room):
+    """51, 21, 23, 24, 40."""
+    check_new(algorithm, count, seed)
+    return into_room(extended_text(kind, password, (algorithm, count, seed), new), room)
+
+
 # 01, The card
 
 
 def card_text(phrase, challenge, lines):
     """10, 11, 20 to 25, 70; then a line each for counts n down to n-k+1, by the challenge's algorithm."""
     check_phrase(phrase)
-    algorithm, count, at, length, _ = read_challenge(challenge)
+    algorithm, count, at, length, *_ = read_challenge(challenge)
     refuse_if(not 1 <= lines <= min(99, count), 70)
     passwords = chain(algorithm, phrase, challenge[at:at + length], count)
     return b"".join(
@@ -263,6 +350,11 @@ class Account:
         self.algorithm, self.count, self.password = algorithm, count, password
         self.seeds = [seed.lower(), *self.seeds][:8]
 
+    def check_renewal(self, algorithm, count, seed):
+        """51, 21, 23, 24, then 63 for a seed that is remembered."""
+        check_new(algorithm, count, seed)
+        refuse_if(seed.lower() in self.seeds, 63)
+
     def join(self, port):
         """To the back; in an empty line the turn starts at once."""
         if not self.line:
@@ -299,9 +391,7 @@ class Table:
     def enrol(self, id, algorithm, count, seed, password):
         """50, 51, 21, 23, 24, 52, 53."""
         refuse_if(id == 0, 50)
-        refuse_if(not 2 <= count <= 9999, 51)
-        check_algorithm(algorithm)
-        check_seed(seed)
+        check_new(algorithm, count, seed)
         refuse_if(id in self.accounts, 52)
         refuse_if(len(self.accounts) == 32, 53)
         self.accounts[id] = Account(algorithm, count, seed, password)
@@ -325,28 +415,42 @@ class Table:
         self.own_account(port).leave(port)
 
     def challenge(self, port, room):
-        """The checks of a turn, then 40. The account's algorithm, stored count less 1 and the seed."""
+        """The checks of a turn, then 40. The account's algorithm, stored count less 1, the seed and the mark."""
         account = self.account_in_turn(port)
-        return into_room(challenge_text(account.algorithm, account.seeds[0], account.count - 1), room)
+        return into_room(challenge_text(account.algorithm, account.seeds[0], account.count - 1, b" ext"), room)
 
     def reply(self, port, text):
-        """The checks of a turn, 30 to 33, then 61 or 62, or the new count."""
+        """The checks of a turn. A text without a colon is plain: 30 to 33. An extended one: 30, 34, 35; the new values, the new password and then the
+        present one, each as far as it has them. Then 61 or 62, or the new count."""
         account = self.account_in_turn(port)
-        password = read_reply(text)
-        self.offer(port, account, password)
-        account.password = password
+        if b":" not in text:
+            return self.login(port, account, read_reply(text))
+        kind, parts = parts_of(text)
+        read = READERS[kind.removeprefix(INIT)]
+        if not is_init(kind):
+            return self.login(port, account, read(parts[0]))
+        values = parameters_of(parts[1])
+        account.check_renewal(*values)
+        new = read(parts[2])
+        return self.renewal(port, account, *values, new, read(parts[0]))
+
+    def renew(self, port, algorithm, count, seed, password, text):
+        """The checks of a turn, 51, 21, 23, 24, 63; the text is plain."""
+        account = self.account_in_turn(port)
+        account.check_renewal(algorithm, count, seed)
+        return self.renewal(port, account, algorithm, count, seed, password, read_reply(text))
+
+    def login(self, port, account, present):
+        """What is accepted is kept, and the count steps down."""
+        self.offer(port, account, present)
+        account.password = present
         account.count -= 1
         return account.count
 
-    def renew(self, port, algorithm, count, seed, password, text):
-        """The checks of a turn, 51, 21, 23, 24, 63, then as Reply: only what is accepted changes the algorithm, and is remembered."""
-        account = self.account_in_turn(port)
-        refuse_if(not 2 <= count <= 9999, 51)
-        check_algorithm(algorithm)
-        check_seed(seed)
-        refuse_if(seed.lower() in account.seeds, 63)
-        self.offer(port, account, read_reply(text))
-        account.take(algorithm, count, seed, password)
+    def renewal(self, port, account, algorithm, count, seed, new, present):
+        """Only what is accepted changes the algorithm, and is remembered."""
+        self.offer(port, account, present)
+        account.take(algorithm, count, seed, new)
         return count
 
     def tick(self):
@@ -424,7 +528,16 @@ def number_to(most):
     return number_in
 
 
+def one_of(*names):
+    def name_in(word):
+        if word.encode("latin-1") not in names:
+            raise Bad
+        return word.encode()
+    return name_in
+
+
 TEXT, PASSWORD = text_in, password_in
+LOGIN, RENEWAL = one_of(*READERS), one_of(*(INIT + name for name in READERS))
 ALGORITHM, NUMBER, ROOM, TICKS = number_to(255), number_to(65535), number_to(8192), number_to(100000)
 
 
@@ -445,8 +558,10 @@ CALLS = {
     "words": ([PASSWORD, ROOM], lambda t, p, room: into_room(words_of(p), room)),
     "hex": ([PASSWORD, ROOM], lambda t, p, room: into_room(hex_of(p), room)),
     "read": ([TEXT], lambda t, text: "%016x" % read_reply(text)),
-    "chal": ([TEXT], lambda t, text: "%d %d %d %d %d" % read_challenge(text)),
+    "chal": ([TEXT], lambda t, text: "%d %d %d %d %d %d" % read_challenge(text)),
     "wchal": ([ALGORITHM, TEXT, NUMBER, ROOM], lambda t, *given: write_challenge(*given)),
+    "wext": ([LOGIN, PASSWORD, ROOM], lambda t, *given: write_login(*given)),
+    "wext init": ([RENEWAL, PASSWORD, ALGORITHM, NUMBER, TEXT, PASSWORD, ROOM], lambda t, *given: write_renewal(*given)),
     "card": ([TEXT, TEXT, NUMBER, ROOM], lambda t, *given: write_card(*given)),
     "prog": ([TEXT], lambda t, stdin: hex_word(card_program(stdin))),
     "new": ([], Table.__init__),
@@ -465,7 +580,9 @@ CALLS = {
 def answer(table, line):
     """The answer to one call; `bad` to a line that is none."""
     name, *words = line.split(" ")
-    kinds, act = CALLS.get(name, (None, None))
+    # one name for two calls: KIND says which
+    form = "wext init" if name == "wext" and words and words[0].startswith("init-") else name
+    kinds, act = CALLS.get(form, (None, None))
     if kinds is None or len(words) != len(kinds):
         return "bad"
     # only a writer is lent room, as its last word; a model's buffer is never dirty

@@ -1,7 +1,11 @@
-"""What scripts show of the seeds that accounts remember (R-5): read from calls and answers; the model is asked for nothing but a word's bytes."""
+"""What scripts show of the seeds that accounts remember (R-5): read from calls and answers; the model is asked for nothing but a word's bytes. A reply of
+an `init` type (R-6) that has all its parts is a renewal."""
 import collections
 
+import extensions
 from model import text_in
+
+ALGORITHMS = {b"md5": 1, b"sha1": 2}
 
 PLACES = 8
 # what is answered to a renewal that may name a seed which is taken later
@@ -12,6 +16,15 @@ KINDS = [*(f"63, {back} back" for back in range(PLACES)), "ok, 8 back", "ok, 9 b
          "ok, of an account removed under this id", "ok, of another removed from this room", "ok, of the table before", "ok, of another account",
          "ok, begins with a remembered one", "ok, begins a remembered one",
          *(f"dump, {number} remembered" for number in range(1, PLACES + 1)), "dump, two with eight"]
+
+
+def values_in(text):
+    """The algorithm and the seed that a reply of an `init` type names; None where it hasn't both."""
+    parts = text.split(b":")
+    if parts[0] not in extensions.RENEWALS or len(parts) != 4:
+        return None
+    name, _, seed = extensions.new_values(parts[2])
+    return (ALGORITHMS.get(name, 0), seed) if seed else None
 
 
 class Account:
@@ -56,8 +69,8 @@ class Reader:
     def read(self, line, answer):
         name, *words = line.split(" ")
         number = answer.split(" ")[1 if answer.startswith("no") else 0]
-        if name == "renew" and number in ("ok", *REFUSALS):
-            self.renew(number, *words)
+        if name in ("renew", "reply") and number in ("ok", *REFUSALS) and (new := self.new_values(name, words)):
+            self.renew(number, int(words[0]), *new)
         elif number == "ok" and name in ("new", "enrol", "remove", "join", "reply"):
             getattr(self, name)(*words)
         elif number == "ok" and name == "dump":
@@ -83,19 +96,24 @@ class Reader:
     def join(self, port, id):
         self.joined[int(port)] = int(id)
 
+    @staticmethod
+    def new_values(name, words):
+        """The algorithm and the seed that a renewal names; None for a login."""
+        return (int(words[1]), text_in(words[3])) if name == "renew" else values_in(text_in(words[1]))
+
     def reply(self, port, _text):
         account = self.accounts[self.joined[int(port)]]
         account.replied |= {*account.seeds()}
 
-    def renew(self, answer, port, algorithm, _count, seed, _password, _text):
+    def renew(self, answer, port, algorithm, given):
         """An answer that isn't 55 or 59 is of the account for which the port joined last."""
-        account, given = self.accounts[self.joined[int(port)]], text_in(seed)
+        account = self.accounts[self.joined[port]]
         others = self.remembered(each for each in self.accounts.values() if each is not account)
-        self.seen.update(account.shown(answer, given, int(algorithm), others))
+        self.seen.update(account.shown(answer, given, algorithm, others))
         if answer != "ok":
             account.refused[given.lower()].add(answer)
             return
-        account.taken.insert(0, (given.lower(), int(algorithm)))
+        account.taken.insert(0, (given.lower(), algorithm))
         account.refused.pop(given.lower(), None)
         account.replied.discard(given.lower())
 

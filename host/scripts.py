@@ -5,12 +5,13 @@ the model as it is made, so that the next one can suit the table: the right
 reply of a port that has a turn, a full table, four ports in line. The days come
 in three manners: all ports crowd at one account, they spread over four, or mix.
 On each day two technicians renew accounts round rings of seeds, of a size that
-differs from day to day.
+differs from day to day. Half of the replies, and of the technicians' renewals, are a service handheld's.
 """
 import collections
 import itertools
 import random
 
+import handheld
 import harness
 import model
 from harness import call
@@ -21,9 +22,9 @@ PORTS = (0, 1, 2, 3)
 PHRASES = [b"A_Valid_Pass_Phrase", b"This is a test.", b"\0" * 10, bytes(range(128, 191))]
 
 # the numbers of document 01, each of which some call can give
-NUMBERS = [10, 11, 12, 13, *range(20, 26), *range(30, 34), 40, *range(50, 64), 70]
-# the calls that are told an algorithm, by number or in a challenge: each can give 21
-TOLD = ["gen", "chal", "wchal", "card", "enrol", "renew"]
+NUMBERS = [10, 11, 12, 13, *range(20, 26), *range(30, 36), 40, *range(50, 64), 70]
+# the calls that are told an algorithm, by number or in a text: each can give 21
+TOLD = ["gen", "chal", "wchal", "wext", "card", "enrol", "reply", "renew"]
 # and those that read a reply
 READERS = ["read", "reply", "renew"]
 # how the ports join: days with seeds one after the other take these in turn
@@ -44,7 +45,7 @@ class Day:
         self.rng = random.Random(seed)
         self.table = model.Table()
         self.lines, self.answers = [], []
-        self.accepted = collections.Counter()  # replies and renewals, with the account's algorithm before and after
+        self.accepted = collections.Counter()  # logins, renewals and those by a reply, with the account's algorithm before and after
         self.ticked = collections.Counter()  # the most of LONG that a call had, with the lines before it, 2 for more
         self.before = {}  # a password -> the one that it is the hash of
         self.long_left = 2  # very long texts and long waits that the script may still have
@@ -67,8 +68,8 @@ class Day:
             self.join: rng.choice([20, 30, 40]), self.leave: rng.choice([1, 2, 4]),
             self.challenge: 4, self.reply: rng.choice([6, 15, 30]), self.renew: rng.choice([3, 8]), self.ringed: rng.choice([30, 50]),
             self.tick: rng.choice([2, 5, 10]), self.dump: 6, self.new: 0.1,
-            self.digest: 3, self.gen: 3, self.words: 2, self.hex: 2, self.read: 4, self.chal: 4,
-            self.wchal: 3, self.card: 3, self.prog: 3, self.no_call: 2}
+            self.digest: 3, self.gen: 3, self.words: 2, self.hex: 2, self.read: 5, self.chal: 10,
+            self.wchal: 3, self.wext: 4, self.card: 3, self.prog: 3, self.no_call: 2}
         return weights.items()
 
     def answer(self, line):
@@ -77,7 +78,7 @@ class Day:
         before = account and account.algorithm
         self.answers.append(model.answer(self.table, line))
         if name in ("reply", "renew") and self.answers[-1].startswith("ok"):
-            self.accepted[name, before, account.algorithm] += 1
+            self.accepted["init" if line.split(" ")[2].startswith(model.INIT.hex()) else name, before, account.algorithm] += 1
         if name == "tick" and self.answers[-1] == "ok":
             self.ticked[max([0, *(long for long in LONG if long <= int(line.split(" ")[1]))]), min(lines, 2)] += 1
 
@@ -171,18 +172,29 @@ class Day:
         algorithm, count, seed = self.algorithm(), self.count(), self.seed()
         return algorithm, count, seed, self.chained(algorithm, seed, count)
 
-    def reply_text(self, port):
-        """The right reply of the port, or now and then of another line's, as hex or words; another password; or no password."""
+    def offered(self, port):
+        """The right password of the port, or now and then of another line's; another one, or none."""
         account, busy = self.table.waited_for(port), self.busy()
         if busy and (account is None or self.rng.random() < 0.05):
             account = self.rng.choice(busy)
         password = self.before.get(account.password) if account else None
         if password is None or self.rng.random() > self.right:
-            if self.rng.random() < 0.5:
-                return self.any_reply()
-            password = self.rng.getrandbits(64)
-        text = self.rng.choice([model.hex_of, model.words_of])(password)
-        return replies.some_case(self.rng, replies.spaced(self.rng, text.split()))
+            return self.rng.choice([None, self.rng.getrandbits(64)])
+        return password
+
+    def reply_text(self, port):
+        """A password as hex or words, or no password."""
+        password = self.offered(port)
+        return self.any_reply() if password is None else handheld.spelt(self.rng, self.rng.choice([*model.READERS]), password)
+
+    def extended(self, port, kinds=model.TYPES):
+        """A handheld's reply of one of these types; where there is no password, and now and then where there is one, damaged."""
+        password, (algorithm, count, seed, new) = self.offered(port), self.new_values()
+        account = self.table.waited_for(port)
+        if account and self.rng.random() < 0.1:
+            seed = replies.some_case(self.rng, self.rng.choice(account.seeds))
+        sent = handheld.sent(self.rng, self.rng.choice(kinds), password or 0, (algorithm, count, seed), int(new, 16))
+        return (handheld.damaged if password is None or self.rng.random() < 0.5 else handheld.text_of)(self.rng, sent)
 
     def any_reply(self):
         if self.long():
@@ -227,17 +239,25 @@ class Day:
         return call("leave", self.any_port())
 
     def challenge(self):
-        return call("challenge", self.port(), self.room(self.rng.choice([17, 18])))
+        return call("challenge", self.port(), self.room(self.rng.choice([21, 22])))
 
     def reply(self):
+        """A plain one or a handheld's. Seldom a renewal at a technician's account, in whose ring one seed more would be."""
         port = self.port()
-        return call("reply", port, self.reply_text(port))
+        if self.rng.random() < 0.5:
+            return call("reply", port, self.reply_text(port))
+        return call("reply", port, self.extended(port, [*model.READERS] if self.ringed_at(port) else model.TYPES))
 
     def renew(self):
-        """Seldom with the right reply at a technician's account, in whose ring one seed more would be."""
+        """Seldom with the right reply at a technician's account; now and then with a handheld's, which isn't plain."""
         port = self.port()
-        spared = any(port in account.line and self.spared(id) for id, account in self.table.accounts.items())
-        return call("renew", port, *self.new_values(), self.any_reply() if spared else self.reply_text(port))
+        spared = self.ringed_at(port)
+        text = self.extended(port) if self.rng.random() < 0.1 else self.any_reply() if spared else self.reply_text(port)
+        return call("renew", port, *self.new_values(), text)
+
+    def ringed_at(self, port):
+        """Whether a port waits for an account that others than its technician leave alone now."""
+        return any(port in account.line and self.spared(id) for id, account in self.table.accounts.items())
 
     def ringed(self):
         """What one of the technicians does next."""
@@ -270,13 +290,21 @@ class Day:
         return call("hex", self.password(), self.room(16))
 
     def read(self):
-        return call("read", self.any_reply())
+        return call("read", self.extended(self.any_port()) if self.rng.random() < 0.2 else self.any_reply())
 
     def chal(self):
-        return call("chal", challenges.any_challenge(self.rng))
+        return call("chal", self.rng.choice([challenges.any_challenge, challenges.marked_challenge])(self.rng))
 
     def wchal(self):
         return call("wchal", self.algorithm(), self.seed(), self.count(), self.room(self.rng.choice([17, 18])))
+
+    def wext(self):
+        """A writer of either form; now and then with the other's words, or with a name that is no type's."""
+        kind, (algorithm, count, seed, new) = self.rng.choice(model.TYPES), self.new_values()
+        name = self.rng.choice([*[kind] * 12, *model.TYPES, b"HEX", b"words", b"init", b"-"]).decode()
+        values, password = (algorithm, count, self.rng.choice([seed, passwords.any_seed(self.rng)])), self.password()
+        length = len(model.extended_text(kind, int(password, 16), values, int(new, 16))) if algorithm in model.NAMES else 60
+        return call("wext", name, password, *([*values, new] if model.is_init(kind) else []), self.room(length))
 
     def some_challenge(self):
         if self.rng.random() < 0.3:
@@ -300,7 +328,7 @@ class Day:
 
     def no_call(self):
         """An empty line, a comment, or a good line with one thing wrong."""
-        line = self.rng.choice([self.join, self.gen, self.hex, self.tick, self.enrol, self.read, self.wchal, self.renew])()
+        line = self.rng.choice([self.join, self.gen, self.hex, self.tick, self.enrol, self.read, self.wchal, self.wext, self.renew])()
         words = line.split(" ")
         at = self.rng.randrange(len(words))
         changed = self.rng.choice(["", words[at] + " ", words[at] + "\r", words[at].upper(), "-", "x",

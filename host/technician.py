@@ -2,10 +2,13 @@
 
 With a ring of n seeds the first comes up again at the nth renewal. Of eight or fewer it is still remembered then (63), and he begins a new ring; of more it
 was forgotten, and he goes round. In between he asks for a remembered seed, in either case and under either algorithm; has a wrong reply, or something else
-wrong, with the seed that comes next, and takes that seed afterwards all the same; replies; and removes the account and enrols it anew.
+wrong, with the seed that comes next, and takes that seed afterwards all the same; replies; and removes the account and enrols it anew. He renews by Renew
+or by a reply of an `init` type.
 """
 import collections
 
+import extensions
+import handheld
 import model
 from harness import call
 from sections import passwords, replies
@@ -44,7 +47,7 @@ class Technician:
             return call("remove", self.id)
         if not account.line:
             return self.join()
-        return self.rng.choices([self.round, self.back, self.wrong, self.refused, self.reply], [10, 3, 1, 2, 2])[0](account, model.hex_of(password))
+        return self.rng.choices([self.round, self.back, self.wrong, self.refused, self.reply], [10, 3, 1, 2, 2])[0](account, password)
 
     def enrol(self):
         """The account, under its id or another, with the ring turned back by one: the seed that was taken last comes next, and the one before it is
@@ -71,33 +74,39 @@ class Technician:
         algorithm, count = self.rng.choice([*model.NAMES]), self.rng.randrange(3, 60)
         return algorithm, count, replies.some_case(self.rng, seed), self.day.kept(algorithm, seed, count)
 
+    def renewal(self, port, values, present, text=None):
+        """By Renew, or by a reply that says the same; `text` is what stands for the present password, if it isn't the one that is given."""
+        algorithm, count, seed, new = values
+        if self.rng.random() < 0.5:
+            return call("renew", port, *values, model.hex_of(present) if text is None else text)
+        sent = handheld.sent(self.rng, self.rng.choice(extensions.RENEWALS), present, (algorithm, count, seed), int(new, 16))
+        return call("reply", port, handheld.text_of(self.rng, sent if text is None else sent._replace(present=text)))
+
     # what the port in front does
 
-    def round(self, account, text):
+    def round(self, account, present):
         """The next seed of the ring, with the right reply; where it is remembered, a new ring begins."""
-        line = call("renew", account.line[0], *self.values(self.ring[0]), text)
+        line = self.renewal(account.line[0], self.values(self.ring[0]), present)
         if self.ring[0].lower() in account.seeds:
             self.begin()
         else:
             self.ring.rotate(-1)
         return line
 
-    def back(self, account, text):
+    def back(self, account, present):
         """The seed at one of the eight places, if there is one; 63 comes before what may be wrong with the text."""
         place = self.rng.randrange(8)
         if place >= len(account.seeds):
-            return self.round(account, text)
-        if self.rng.random() < 0.5:
-            text = self.day.any_reply()
-        return call("renew", account.line[0], *self.values(account.seeds[place]), text)
+            return self.round(account, present)
+        return self.renewal(account.line[0], self.values(account.seeds[place]), present, self.rng.choice([None, self.day.any_reply()]))
 
-    def wrong(self, account, _text):
+    def wrong(self, account, _present):
         """The next seed of the ring, with a password at random."""
-        return call("renew", account.line[0], *self.values(self.ring[0]), model.hex_of(self.rng.getrandbits(64)))
+        return self.renewal(account.line[0], self.values(self.ring[0]), self.rng.getrandbits(64))
 
-    def refused(self, account, text):
+    def refused(self, account, present):
         """The next seed of the ring, with something else that is wrong: the port, the count, the algorithm, or mostly the text."""
-        port, algorithm, count, seed, password = account.line[0], *self.values(self.ring[0])
+        port, algorithm, count, seed, password, text = account.line[0], *self.values(self.ring[0]), None
         what = self.rng.choice(["port", "count", "algorithm", *["text"] * 3])
         if what == "port":
             port = account.line[-1] if account.line[1:] else self.day.any_port()
@@ -107,7 +116,9 @@ class Technician:
             algorithm = self.rng.choice([0, 3, 255])
         else:
             text = self.rng.choice([*[self.day.any_reply()] * 9, b" " * 129])
-        return call("renew", port, algorithm, count, seed, password, text)
+        return self.renewal(port, (algorithm, count, seed, password), present, text)
 
-    def reply(self, account, text):
-        return call("reply", account.line[0], text)
+    def reply(self, account, present):
+        """A login, plain or of one of the two types."""
+        sent = handheld.sent(self.rng, self.rng.choice([*model.READERS]), present, (model.MD5, 2, b"a"), 0)
+        return call("reply", account.line[0], self.rng.choice([sent.present, handheld.text_of(self.rng, sent)]))

@@ -12,7 +12,7 @@ import time
 sys.dont_write_bytecode = True
 
 import harness  # noqa: E402
-from sections import believed, cards, challenges, commands, compared, docs, house, lines, numbers, paper  # noqa: E402
+from sections import believed, cards, challenges, commands, compared, docs, extended_replies, house, lines, numbers, paper  # noqa: E402
 from sections import passwords, promises, refused, replay, replies, seeds, selftest, terminal, tools  # noqa: E402
 
 SECTIONS = [
@@ -39,6 +39,7 @@ SECTIONS = [
     ("algorithms that aren't known", challenges.unknown_algorithms),
     ("challenge writer at every room", challenges.writer_at_every_room),
     ("challenges written and read", challenges.written_reads_back),
+    ("extended replies at every room", extended_replies.writer_at_every_room),
     ("cards of every length", cards.cards_of_every_length),
     ("cards at random", cards.cards_at_random),
     ("program card", cards.program),
@@ -49,6 +50,9 @@ SECTIONS = [
     ("program replay on misread words", replay.misread),
     ("a line for each account", lines.sentences),
     ("the last eight seeds", seeds.sentences),
+    ("extended replies", extended_replies.sentences),
+    ("extended replies written and taken", extended_replies.written_reads_back),
+    ("extended replies at random and damaged", extended_replies.texts_at_random),
     ("program replay at random", replay.at_random),
     ("uses in crates.txt", house.uses),
     ("layers in README.md", house.layers),

@@ -42,7 +42,7 @@ extern "C" {
 
 /* Which state of this header it is: 0 for the base, n after change request
  * R-n. */
-#define LIFT_VERSION 5
+#define LIFT_VERSION 6
 
 /* The algorithms by number. Any other number is refused as unknown (21); it is
  * compared whole, so 257 isn't 1. In a text an algorithm is its name, `md5` or
@@ -52,10 +52,20 @@ enum lift_algorithm {
     LIFT_SHA1 = 2
 };
 
+/* The types of an extended reply (RFC 2243) by number; in a text a type is its
+ * name, in lower case. Any other number is refused as unknown (34). The `init`
+ * types are renewals. */
+enum lift_type {
+    LIFT_HEX = 1,      /* hex */
+    LIFT_WORD = 2,     /* word */
+    LIFT_INIT_HEX = 3, /* init-hex */
+    LIFT_INIT_WORD = 4 /* init-word */
+};
+
 /* The refusals, by the numbers of document 01, the rules of the build;
  * docs/GUIDE.md has for each what is wrong and what to do. The functions below
- * give 10 to 40 and 70. 50 to 63 are the login table's own, for a panel that
- * shows what a controller answered. */
+ * give 10 to 34, 40, 51 and 70. 35 and the others of 50 to 63 are the login
+ * table's own, for a panel that shows what a controller answered. */
 enum lift_refusal {
     LIFT_PHRASE_SHORT = 10,
     LIFT_PHRASE_LONG = 11,
@@ -71,6 +81,8 @@ enum lift_refusal {
     LIFT_WORD_UNKNOWN = 31,
     LIFT_PAIR_SUM_WRONG = 32,
     LIFT_REPLY_UNREAD = 33,
+    LIFT_TYPE_UNKNOWN = 34,
+    LIFT_PARTS_WRONG = 35,
     LIFT_BUFFER_SHORT = 40,
     LIFT_ID_ZERO = 50,
     LIFT_COUNT_OUTSIDE = 51,
@@ -109,10 +121,12 @@ typedef struct {
 
 /* What a challenge says: the algorithm by its number, the count, the seed as
  * the seed_len bytes at text + seed_at, and how many bytes were used, the one
- * after the seed included; or a refusal. */
+ * after the seed included; or a refusal. `ext` is 1 with the mark, which says
+ * that the server takes extended replies: `used` then goes up to the byte after
+ * the mark, that one included. `ext` is 0 without the mark. */
 typedef struct {
     size_t seed_at, seed_len, used;
-    uint32_t count, algorithm, refusal;
+    uint32_t count, algorithm, ext, refusal;
 } lift_challenge;
 
 /* MD5 (RFC 1321) of text[0 .. text_len], 0 to 4,096 bytes: the 16 bytes of
@@ -144,9 +158,10 @@ lift_reading lift_password(uint32_t algorithm,
                            const uint8_t *seed, size_t seed_len,
                            uint32_t count);
 
-/* Reads a reply: six words or sixteen hex digits, in either case, between
+/* Reads a plain reply: six words or sixteen hex digits, in either case, between
  * spaces, tabs, carriage returns and newlines. Six tokens of one to four
- * letters are words, even where they could be hex.
+ * letters are words, even where they could be hex. An extended reply is read by
+ * the login table alone: here a colon is 33.
  *   30  text_len is over 128
  *   31  a word is not in the dictionary; `marks` has a mark for each such
  *   32  the words are known, but their check sum is wrong
@@ -162,9 +177,35 @@ lift_written lift_write_hex(uint64_t password, uint8_t *buf, size_t buf_len);
  *   40  buf_len is under the length of this very text */
 lift_written lift_write_words(uint64_t password, uint8_t *buf, size_t buf_len);
 
-/* Reads a challenge from left to right, as `otp-sha1 487 dog2` and a newline.
- * The text may be of any length; what stands after the byte that ends the
- * seed isn't read. A token ends before a space, tab, newline or the end.
+/* Writes an extended reply (RFC 2243) to the front of buf, with nothing after
+ * it: the type's name, a colon and the password, as lift_write_hex or
+ * lift_write_words writes it. For the two `init` types, then a colon, algorithm,
+ * space, count, space, the seed as it is given, a colon and the new password.
+ * At most 20, 34, 69 and 96 bytes for the types 1 to 4.
+ * With LIFT_HEX and LIFT_WORD nothing of a renewal is looked at: algorithm,
+ * count and new_password may be any number, and the seed's bytes anything. Its
+ * pointer and length are owed as ever; null with length 0 will do.
+ *   34  type is none of enum lift_type
+ * for the `init` types then
+ *   51  count is not 2 to 9,999
+ *   21  algorithm is neither LIFT_MD5 nor LIFT_SHA1
+ *   23  seed_len is not 1 to 16
+ *   24  a byte of the seed is no ASCII letter or digit
+ * and last
+ *   40  buf_len is under the length of this very text */
+lift_written lift_write_extended(uint32_t type, uint64_t password,
+                                 uint32_t algorithm, uint32_t count,
+                                 const uint8_t *seed, size_t seed_len,
+                                 uint64_t new_password,
+                                 uint8_t *buf, size_t buf_len);
+
+/* Reads a challenge from left to right, as `otp-sha1 487 dog2` and a newline,
+ * or with the mark ` ext` before the newline. The text may be of any length;
+ * what stands after the byte that ends the seed is looked at for the mark
+ * alone. A token ends before a space, tab, newline or the end. The mark is the
+ * next token on the seed's line, `ext` in lower case, alone or with a comma and
+ * whatever is behind that, nothing too, and has a space or newline straight
+ * after it. Whatever else stands there is no mark, and no refusal.
  *   20  it does not start with `otp-`
  *   21  the rest of that token is neither `md5` nor `sha1`
  *   22  no count of one to four digits without a leading zero
@@ -174,7 +215,7 @@ lift_written lift_write_words(uint64_t password, uint8_t *buf, size_t buf_len);
 lift_challenge lift_read_challenge(const uint8_t *text, size_t text_len);
 
 /* Writes a challenge, the seed in lower case, a newline at its end, to the
- * front of buf: 12 to 31 bytes.
+ * front of buf: 12 to 31 bytes. It writes no mark.
  *   21  algorithm is neither LIFT_MD5 nor LIFT_SHA1
  *   23  seed_len is not 1 to 16
  *   24  a byte of the seed is no ASCII letter or digit

@@ -1,5 +1,6 @@
 /* A call of each function of lift.h, as a panel would make it: a challenge is
- * read, the password for it made and written, and a typed line read back. */
+ * read, the password for it made and written, also as a handheld sends it, and a
+ * typed line read back. */
 #include <stdio.h>
 #include <string.h>
 
@@ -7,7 +8,7 @@
 
 #define BYTES(string) (const uint8_t *)(string), strlen(string)
 
-static const char phrase[] = "A_Valid_Pass_Phrase", challenge[] = "otp-md5 99 AValidSeed\n";
+static const char phrase[] = "A_Valid_Pass_Phrase", challenge[] = "otp-md5 99 AValidSeed ext\n";
 static const char misread[] = "FOWL KIO MASH DEAD DUAL OAP"; /* KID and OAF, off a smudged card */
 
 static void print_text(const char *what, const uint8_t *text, lift_written result)
@@ -44,9 +45,14 @@ int main(void)
     lift_challenge asked = lift_read_challenge(BYTES(challenge));
     const uint8_t *seed = (const uint8_t *)challenge + asked.seed_at;
     lift_reading made = lift_password(asked.algorithm, BYTES(phrase), seed, asked.seed_len, asked.count);
+    lift_reading next = lift_password(LIFT_SHA1, BYTES(phrase), BYTES("lift3"), 500);
+    printf("takes extended replies %u\n", (unsigned)asked.ext);
     print_text("words", buf, lift_write_words(made.password, buf, sizeof buf));
     print_text("hex", buf, lift_write_hex(made.password, buf, sizeof buf));
     print_text("short", buf, lift_write_hex(made.password, buf, 15));
+    print_text("login", buf, lift_write_extended(LIFT_WORD, made.password, 0, 0, NULL, 0, 0, buf, sizeof buf));
+    print_text("renewal", buf, lift_write_extended(LIFT_INIT_HEX, made.password, LIFT_SHA1, 500, BYTES("lift3"),
+                                                   next.password, buf, sizeof buf));
 
     lift_reading typed = lift_read_reply(BYTES("fowl kid mash dead dual oaf"));
     printf("typed the same %d\n", typed.refusal == 0 && typed.password == made.password);

@@ -10,7 +10,10 @@ from sections.passwords import GOOD, any_algorithm, any_seed
 # bytes that mean something in a challenge, their neighbours, and some that mean nothing
 TELLING = b" \t\n\r\0-0129:/Aazo_\x0b\x80\xff"
 SAMPLES = [b"otp-md5 487 dog2\n", b"otp-md5 0 a ", b"otp-sha1\t9999 \t ABCDEFGHIJKLMNOP\n",
-           b"otp-md5 1 z9\nmore", b"otp-md5 99 A Seed", b"otp-sha1 5 ke4452 \n", b"otp-md4 5 ke4452 \n"]
+           b"otp-md5 1 z9\nmore", b"otp-md5 99 A Seed", b"otp-sha1 5 ke4452 \n", b"otp-md4 5 ke4452 \n",
+           b"otp-md5 5 ke4452 ext\n", b"otp-sha1 5 ke4452 \t ext,a, more"]
+# what may stand where the mark does
+TOKENS = [b"ext", b"ext,", b"ext,a,b", b"ext,a\r", b"ext,ext", b"EXT", b"Ext", b"EXT,a", b"extra", b"ext\r", b"ext;a", b"ex", b"xext", b",ext", b"ext\0", b"a"]
 NAMES = [*model.NAMES.values()]
 # no algorithm's name, or one's in another case, with too little or too much, or two of them
 WRONG_NAMES = [b"", b"m", b"md", b"MD5", b"Md5", b"md4", b"md55", b"md5-", b"md5\0", b"md5\r", b"-md5", b"md5sha1",
@@ -47,14 +50,28 @@ def good_opening(rng):
     return b"otp-" + rng.choice(NAMES)
 
 
+def any_mark(rng):
+    """What comes behind a seed that a space ends: often the mark, or what is nearly one, and how it is ended."""
+    token = rng.choice([b"ext", b"ext", *TOKENS])
+    first = rng.choice([b""] * 6 + [b"a ", b"\n"])
+    return blanks(rng)[1:] + first + token + rng.choice([b"\n", b"\n", b" ", b" ", b"\t", b"", b"\r\n"])
+
+
 def any_challenge(rng):
     """Parts that are good mostly, each wrong now and then."""
     start = rng.choice([b"otp-"] * 30 + [b"", b"OTP-", b"otp", b" otp-", b"otp_", b"Otp-"])
     name = rng.choice([*NAMES * 3, rng.choice(WRONG_NAMES)])
     end = rng.choice([b"\n", b" ", b" ", b"\n", b"\t", b"", b"\r\n", b"\0"])
-    after = rng.randbytes(rng.choice([0, 0, 1, 5, 300]))
+    after = rng.choice([b"", any_mark(rng)]) + rng.randbytes(rng.choice([0, 0, 1, 5, 300]))
     return (start + name + blanks(rng) + any_digits(rng) + blanks(rng) + any_seed(rng) + end
             + after)
+
+
+def marked_challenge(rng):
+    """A good one up to the seed, and then the mark or what is nearly one."""
+    seed = bytes(rng.choices(GOOD, k=rng.randrange(1, 17)))
+    end, after = rng.choice([b" ", b" ", b" ", b"\n"]), rng.randbytes(rng.choice([0, 0, 5]))
+    return b"%s %d %s" % (good_opening(rng), rng.randrange(10000), seed) + end + any_mark(rng) + after
 
 
 def long_seed(rng):
@@ -81,7 +98,7 @@ def challenges_at_random(driver):
     rng = random.Random(25)
     texts = [text for sample in SAMPLES for text in damaged(sample)]
     texts += [any_challenge(rng) for _ in range(16000)]
-    texts += [long_seed(rng) for _ in range(2000)]
+    texts += [long_seed(rng) for _ in range(2000)] + [marked_challenge(rng) for _ in range(4000)]
     texts += [any_bytes(rng) for _ in range(500)]
     texts += [(b"otp-%s 1 a\n" % name + rng.randbytes(length))[:length] for name in NAMES for length in (4096, 65536, 131072)]
     lines = [call("chal", text) for text in texts]
@@ -113,14 +130,14 @@ def writer_at_every_room(driver):
 
 
 def written_reads_back(driver):
-    """What was written reads as the same algorithm and count and the seed in lower case, all bytes used."""
+    """What was written reads as the same algorithm and count and the seed in lower case, all bytes used, without the mark."""
     rng = random.Random(17)
     given = [(algorithm, bytes(rng.choices(GOOD, k=rng.randrange(1, 17))), rng.randrange(10000))
              for _ in range(1000) for algorithm in model.NAMES]
     written = harness.asked(driver, [call("wchal", *each, 31) for each in given])
     texts = [bytes.fromhex(answer.split()[2]) for answer in written]
     lines = [call("chal", text) for text in texts]
-    wanted = [f"ok {algorithm} {count} {len(text) - len(seed) - 1} {len(seed)} {len(text)}"
+    wanted = [f"ok {algorithm} {count} {len(text) - len(seed) - 1} {len(seed)} {len(text)} 0"
               for (algorithm, seed, count), text in zip(given, texts)]
     harness.hold_to(lines, harness.asked(driver, lines), wanted)
     for (_, seed, _), text in zip(given, texts):

@@ -48,7 +48,7 @@ def asked(port, text):
 SCENES = {
     "two technicians with two accounts don't wait for each other, and a tick lowers both turns": [
         *good("join 0 7", "join 1 8"), shown(seven("0", 60), eight("1", 60)),
-        asked(0, b"otp-md5 99 avalidseed\n"), asked(1, b"otp-sha1 98 test\n"),
+        asked(0, b"otp-md5 99 avalidseed ext\n"), asked(1, b"otp-sha1 98 test ext\n"),
         *good("tick 10"), shown(seven("0", 50), eight("1", 50)),
         (call("reply", 1, WORDS_8), "ok 98"), shown(seven("0", 50), eight("-", 0, 98, STORED_8)),
         (call("reply", 0, WORDS_7), "ok 99"), shown(seven("-", 0, 99, STORED_7), eight("-", 0, 98, STORED_8))],
@@ -66,7 +66,7 @@ SCENES = {
         *good("join 2 8"), shown(eight("1.2", 40)), (call("enrol", 7, MD5, 100, b"AValidSeed", SEVEN), "ok"), shown(seven("-", 0), eight("1.2", 40))],
     "60 is for who isn't in front of its own line": [
         *good("join 3 7", "join 1 8", "join 2 7", "join 0 8"), ("challenge 2 64", "no 60 clean"), (call("reply", 0, WORDS_8), "no 60"),
-        (call("renew", 0, MD5, 9, b"lift1", "0" * 16, WORDS_8), "no 60"), asked(3, b"otp-md5 99 avalidseed\n"), asked(1, b"otp-sha1 98 test\n"),
+        (call("renew", 0, MD5, 9, b"lift1", "0" * 16, WORDS_8), "no 60"), asked(3, b"otp-md5 99 avalidseed ext\n"), asked(1, b"otp-sha1 98 test ext\n"),
         shown(seven("3.2", 60), eight("1.0", 60)), *good("leave 1"), shown(seven("3.2", 60), eight("0", 60)),
         ("challenge 2 64", "no 60 clean"), (call("reply", 0, WORDS_8), "ok 98")],
     "the next in one line starts at 60, and the other line's turn goes on": [
@@ -76,7 +76,7 @@ SCENES = {
         *good("join 0 7", "join 1 8", "tick 15", "leave 0"), shown(seven("3", 45), eight("1", 45))],
     "a turn by the 180th tick in a line of four, and at once in a line of its own": [
         *good("join 0 7", "join 1 7", "join 2 7", "join 3 7", "tick 179"), shown(seven("2.3", 1), eight("-", 0)), ("challenge 3 64", "no 60 clean"),
-        *good("tick 1"), shown(seven("3", 60), eight("-", 0)), asked(3, b"otp-md5 99 avalidseed\n"),
+        *good("tick 1"), shown(seven("3", 60), eight("-", 0)), asked(3, b"otp-md5 99 avalidseed ext\n"),
         *good("join 0 7", "join 1 7", "tick 30", "join 2 8"), shown(seven("3.0.1", 30), eight("2", 60)), (call("reply", 2, WORDS_8), "ok 98")],
     "a wrong reply leaves its own line, and the port is shut for every account": [
         *good("join 0 7", "join 1 8", "join 2 8", "tick 5"), (call("reply", 1, WORDS_7), "no 61"),
@@ -95,7 +95,7 @@ SCENES = {
         *good("tick 1"), shown(seven("-", 0), eight("-", 0), nine("-", 0))],
     "a renewal keeps the account's line": [
         *good("join 0 7", "join 1 7", "join 2 8", "tick 3"), (call("renew", 0, SHA1, 9, b"Lift1", "0" * 16, WORDS_7), "ok 9"),
-        shown(f"7:{SHA1}:9:{'0' * 16}:{b'lift1'.hex()}/{b'avalidseed'.hex()}:1:60", eight("2", 57)), asked(1, b"otp-sha1 8 lift1\n")],
+        shown(f"7:{SHA1}:9:{'0' * 16}:{b'lift1'.hex()}/{b'avalidseed'.hex()}:1:60", eight("2", 57)), asked(1, b"otp-sha1 8 lift1 ext\n")],
 }
 
 

@@ -44,13 +44,13 @@ EXAMPLES = [
     (call("read", b"85C4 3EE0 3857 765B"), "ok 85c43ee03857765b"),
     (call("read", b"85C4 3EE0 3857 765"), "no 33"),
     # challenges
-    (call("chal", b"otp-md5 487 dog2\n"), f"ok {MD5} 487 12 4 17"),
+    (call("chal", b"otp-md5 487 dog2\n"), f"ok {MD5} 487 12 4 17 0"),
     (call("chal", b"otp-md5 487 dog2"), "no 25"),
     (call("chal", b"otp-md5 0487 dog2\n"), "no 22"),
-    (call("chal", b"otp-md5 1 abcdefghijklmnop\n"), f"ok {MD5} 1 10 16 27"),
+    (call("chal", b"otp-md5 1 abcdefghijklmnop\n"), f"ok {MD5} 1 10 16 27 0"),
     (call("chal", b"otp-md5 1 abcdefghijklmnopq\n"), "no 23"),
     (call("chal", b"otp-md5 1 Length_Okay\n"), "no 24"),
-    (call("chal", b"otp-md5 99 A Seed"), f"ok {MD5} 99 11 1 13"),
+    (call("chal", b"otp-md5 99 A Seed"), f"ok {MD5} 99 11 1 13 0"),
     # the card
     (call("card", PHRASE, b"otp-md5 99 AValidSeed\n", 1, 100), written(CARD)),
     (call("prog", PHRASE + b"\notp-md5 99 AValidSeed\n1\n"), "ok " + CARD.hex()),
@@ -72,18 +72,21 @@ EXAMPLES = [
 def hold_both_to(driver, lines, answers):
     """The model gives these answers; so does the driver to the calls that are in C."""
     harness.hold_to(lines, model.replay("\n".join(lines)), answers)
-    in_c, wanted = zip(*[(line, answer) for line, answer in zip(lines, answers)
-                         if line.split()[0] in harness.IN_C])
-    harness.hold_to(in_c, harness.asked(driver, in_c), wanted)
+    in_c = [(line, answer) for line, answer in zip(lines, answers) if line.split()[0] in harness.IN_C]
+    asked = [line for line, _ in in_c]
+    harness.hold_to(asked, harness.asked(driver, asked), [answer for _, answer in in_c])
     return f"{len(lines)} calls on the model, {len(in_c)} of them through the driver"
 
 
 def examples(driver):
     """Document 01's own answers."""
+    if not any(line.split()[0] in harness.IN_C for line, _ in EXAMPLES):
+        raise harness.Failed("none of the examples is in C")
     return hold_both_to(driver, *zip(*EXAMPLES))
 
 
 def scripts(driver):
-    """Four recorded scripts with answers from elsewhere, which read the documents alike: two of the base, two of the state after R-7."""
+    """Four recorded scripts with answers from elsewhere, which read the documents alike: two of the base; two of the state after R-7, with the extended
+    texts that are read alone there apart."""
     return "; ".join(f"{recorded.kinds(script)}: {hold_both_to(driver, script.lines, script.answers)}"
                      for script in [*recorded.scripts(), *recorded_ahead.scripts()])

@@ -16,6 +16,9 @@ and 14 of the other.
 R-5 has an account remember its seeds. No recorded renewal that was accepted takes one back. One of the first script that was wrong names one, and another
 seed stands for it, so that the recorded 61 holds. Of what a dump shows now the present seeds were recorded; those before them, 86 in the one script and
 16 in the other, are the ones that the recorded enrolments and renewals took, since the account was enrolled or made anew.
+
+R-6 has the table's Challenge write ` ext` before its newline: it is lent four bytes more, and the recorded text has the mark put in. No challenge that was
+recorded as read has the mark, and no reply has a colon.
 """
 import collections
 import re
@@ -27,6 +30,8 @@ from harness import ROOT, Failed, call
 ALGORITHM_AT = {"gen": 1, "wchal": 1, "enrol": 2, "renew": 2}
 # a name that the base refused and R-1 knows; one of the same length that is refused still
 SHA1, UNKNOWN = b"otp-sha1".hex(), b"otp-sha0".hex()
+# what R-6's Challenge writes before its newline, and the most that a writer is lent
+MARK, MOST_ROOM = b" ext", 8192
 # a seed that no recorded call has
 NEW_SEED = b"neverseen".hex()
 # of each script: how many calls name it, how many are left out, how many of our own make a table anew, and how many times; how many calls have a new seed,
@@ -63,6 +68,8 @@ def call_today(line):
     words = line.replace(SHA1, UNKNOWN).split(" ")
     if words[0] in ALGORITHM_AT:
         words.insert(ALGORITHM_AT[words[0]], "1")
+    if words[0] == "challenge":
+        words[2] = str(min(MOST_ROOM, int(words[2]) + len(MARK)))
     return " ".join(words)
 
 
@@ -88,13 +95,21 @@ def marks_today(text, place):
     return marks
 
 
+def marked(words):
+    """The answer of a Challenge, with the mark in its text."""
+    text = bytes.fromhex(words[2])[:-1] + MARK + b"\n"
+    return ["ok", str(len(text)), text.hex(), *words[3:]]
+
+
 def answer_today(line, answer, seeds):
     """The answer that was recorded to that call; `seeds` has what each account remembers then."""
     name, words = line.split(" ")[0], answer.split(" ")
     if words[:2] == ["no", "31"]:
         words[2] = marks_today(line.split(" ")[-1], words[2])
     if name == "chal" and words[0] == "ok":
-        words.insert(1, "1")
+        words = ["ok", "1", *words[1:], "0"]
+    if name == "challenge" and words[0] == "ok":
+        words = marked(words)
     return dump_today(dump_in(answer), seeds) if name == "dump" else " ".join(words)
 
 

@@ -1,66 +1,46 @@
 """The two recorded scripts for the state after R-7, host/replay/r7_a and r7_b, in today's line format.
 
-They are from the model that isn't ours, stay as they were recorded, and are what is known from outside of R-4's lines and turns and of R-5's
-remembered seeds. A call of R-6 or R-7 is put into today's words where it has the same answer and leaves the same table; the others, all of which
-change nothing, are left out:
+They are from the model that isn't ours, stay as they were recorded, and are what is known from outside of R-4's lines and turns, of R-5's remembered
+seeds and of R-6's extended replies. A call of R-7 is put into today's words where it has the same answer and leaves the same table:
 
-- challenges lose ` ext` and four bytes of room;
-- a password that is offered is replied in hex, and so is what an extended text says; with new values it is a renewal;
-- a plain text that isn't read is no call on the table after R-7, so it is read by `read` here;
-- left out are extended texts that are read alone or are refused, and `wext`.
+- a password that is offered is replied in hex; with new values it is a renewal;
+- a plain text that isn't read is no call on the table after R-7, so it is read by `read` here.
 
-With each of these requests one of these rules goes, and with R-7 this file.
+An extended text that is read alone, or is refused before the table is looked at, is replied here on a table of our own, to a port that has the turn of an
+account which waits for the password that was read: 53 texts of the one script and 60 of the other. A dump shows what was recorded of passwords and new
+values then. The other calls there, four to each text, are our own, and so are the answers to 7 texts of the one script and 3 of the other, which today
+are refused for their new values (51, 21, 23, 24): R-7 reads these, or refuses a password first.
+
+With R-7 this file goes.
 """
+import collections
 import re
 
 import model
 from harness import ROOT, Failed, call
-from sections.recorded import Script
+from sections.recorded import NEW_SEED, Script
 
-EXT = b" ext"
-# how many calls of each script are left out
-LEFT_OUT = {"r7_a": 81, "r7_b": 78}
-
-
-def tokens(text):
-    """What stands between white space of the four kinds."""
-    return [token for token in re.split(rb"[ \t\r\n]", text) if token]
+# of each script: how many texts are replied on a table of our own, and how many answers to them are our own
+Counted = collections.namedtuple("Counted", "texts ours")
+COUNTED = {"r7_a": Counted(53, 7), "r7_b": Counted(60, 3)}
+# the account of that table, before and after its reply
+COUNT, WAITING, GONE = 9, "0:60", "-:0"
 
 
-def password(kind, part):
-    """What a part of an extended text that was read says, as sixteen digits."""
-    return model.hex_of(model.read_reply((b"" if kind.endswith(b"hex") else b" ").join(tokens(part))))
+def is_extended(line):
+    """A text that is read, and has a colon. `readplain` and `renew` read no such text."""
+    words = line.split(" ")
+    return words[0] in ("read", "reply") and b":" in model.text_in(words[-1])
 
 
-def parameters(part):
-    """`algorithm count seed`: numbers that R-7 reads as 0 are 0."""
-    name, count, seed = (re.split(rb"[ \t\r\n]+", part.strip(b" \t\r\n"), maxsplit=2) + [b""] * 3)[:3]
-    algorithm = {known: number for number, known in model.NAMES.items()}.get(name, 0)
-    return algorithm, int(count) if re.fullmatch(rb"0|[1-9][0-9]{0,3}", count) else 0, seed
+def is_refused(answer):
+    """Before the table is looked at."""
+    return re.match("no 3[0-5]", answer) is not None
 
 
-def extended(port, text):
-    """An extended reply that was read: a reply in hex, or a renewal."""
-    kind, present, *new = text.split(b":")
-    if not new:
-        return call("reply", port, password(kind, present))
-    return call("renew", port, *parameters(new[0]), password(kind, new[1]).decode(), password(kind, present))
-
-
-def replied(line, answer):
-    """A call with a text that is read before the table is looked at."""
-    name, port, *_, last = line.split(" ")
-    text = model.text_in(last)
-    is_read = not re.match("no 3[0-5]", answer)
-    if name == "reply" and b":" in text:
-        return extended(port, text) if is_read else None
-    return line if is_read else call("read", text)
-
-
-def challenged(line):
-    """With room for the text without ` ext`; no text is so short that the least room would do."""
-    _, port, room = line.split(" ")
-    return call("challenge", port, max(0, int(room) - len(EXT)))
+def apart(line, answer):
+    """A text that is replied on a table of our own."""
+    return is_extended(line) and (line.startswith("read") or is_refused(answer))
 
 
 def offered(line):
@@ -70,38 +50,67 @@ def offered(line):
 
 
 def call_today(line, answer):
-    """A call in today's words; None where there is none."""
-    name = line.split(" ")[0]
-    if name == "wext" or name == "read" and b":" in model.text_in(line.split(" ")[1]):
-        return None
-    if name in ("reply", "renew"):
-        return replied(line, answer)
+    """A call in today's words."""
+    name, *words = line.split(" ")
     if name in ("offer", "orenew"):
         return offered(line)
-    return challenged(line) if name == "challenge" else line.replace("readplain", "read")
+    return f"read {words[-1]}" if name == "readplain" or name in ("reply", "renew") and is_refused(answer) else line
 
 
-def answer_today(line, answer):
+def answer_today(answer):
     """The answer that was recorded to that call."""
-    name, words = line.split(" ")[0], answer.split(" ")
-    if words[0] == "no":
-        return answer
-    if name == "chal":
-        # the bytes used are those up to the mark
-        words[5:] = [str(int(words[3]) + int(words[4]) + 1)]
-    if name == "challenge":
-        text = bytes.fromhex(words[2]).replace(EXT, b"")
-        words[1:3] = [str(len(text)), text.hex()]
-    if name in ("read", "readplain"):
-        words.remove("pw")
-    return " ".join(words)
+    return answer.replace("ok pw ", "ok ")
+
+
+def fault(algorithm, count, seed):
+    """What today is refused of new values, or nothing."""
+    try:
+        model.check_new(algorithm, count, seed)
+    except model.Refused as refusal:
+        return f"no {refusal.number}"
+    return None
+
+
+def new_values(text, answer):
+    """Algorithm, count and seed of a renewal: as they were recorded, or where a password of it isn't read, as the model reads them."""
+    words, parts = answer.split(" "), text.split(b":")
+    if words[1] == "init":
+        return int(words[2]), int(words[3]), model.text_in(words[4])
+    return model.parameters_of(parts[2]) if re.match("no 3[1-3]", answer) and len(parts) == 4 else None
+
+
+def account(algorithm, count, password, seeds, line):
+    return f"ok A=1:{algorithm}:{count}:{password}:{seeds}:{line} P=0:0,0:0,0:0,0:0"
+
+
+def replied(text, answer):
+    """The stored password, the answer to the reply, and the table after it."""
+    words, values = answer.split(" "), new_values(text, answer)
+    present = words[-1] if words[0] == "ok" else "0" * 16
+    stored = f"{model.hashed_once(model.MD5, int(present, 16)):016x}"
+    refused = values and fault(*values) or (answer if words[0] == "no" else None)
+    if refused:
+        return stored, refused, account(model.MD5, COUNT, stored, NEW_SEED, WAITING)
+    if not values:
+        return stored, f"ok {COUNT - 1}", account(model.MD5, COUNT - 1, present, NEW_SEED, GONE)
+    algorithm, count, seed = values
+    return stored, f"ok {count}", account(algorithm, count, words[5], f"{seed.lower().hex()}/{NEW_SEED}", GONE)
+
+
+def scene(text, answer):
+    """The text on a table of our own: the calls with their answers."""
+    stored, said, table = replied(text, answer)
+    return [("new", "ok"), (f"enrol 1 {model.MD5} {COUNT} {NEW_SEED} {stored}", "ok"), ("join 0 1", "ok"), (call("reply", 0, text), said), ("dump", table)]
 
 
 def scripts():
-    """Each script as its calls and answers of today."""
-    for name, due in LEFT_OUT.items():
+    """Each script as its calls and answers of today, and its extended texts that are read alone."""
+    for name, due in COUNTED.items():
         lines, answers = ((ROOT / "host" / "replay" / f"{name}.{kind}").read_text().splitlines() for kind in ("calls", "answers"))
-        pairs = [pair for pair in zip(lines, answers, strict=True) if call_today(*pair) is not None]
-        if len(lines) - len(pairs) != due:
-            raise Failed(f"{name}: {len(lines) - len(pairs)} calls are left out, not {due}")
-        yield Script([call_today(*pair) for pair in pairs], [answer_today(*pair) for pair in pairs])
+        pairs = list(zip(lines, answers, strict=True))
+        texts = [(model.text_in(line.split(" ")[-1]), answer) for line, answer in pairs if apart(line, answer)]
+        counted = Counted(len(texts), sum(bool((values := new_values(*each)) and fault(*values)) for each in texts))
+        if counted != due:
+            raise Failed(f"{name}: {counted}, not {due}")
+        yield Script(*zip(*((call_today(*pair), answer_today(pair[1])) for pair in pairs if not apart(*pair))))
+        yield Script(*zip(*(pair for each in texts for pair in scene(*each))), 4 * due.texts + due.ours, due.texts)

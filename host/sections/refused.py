@@ -8,6 +8,8 @@ from sections.promises import CRATES, public
 # What the prover says where a name is missing or a step of a proof no longer fits. No edit may be refused for that.
 SHAPE = re.compile(r"is not in scope|has no field|this has type `tie\.Need|no occurrence of the path's left endpoint")
 HEAD = re.compile(r"^(?:pub )?(?:extern \"C\" )?fn (\w+)", re.M)
+# A declaration of a file of specs: what comes before it, and its name. A theorem has only `pub` before it.
+STATED = re.compile(r"^(?!use |module |--|unfolding )((?:(?:abbrev|unfoldable|pub|record|data) )*)([^\s:]+) (?:.* )?:", re.M)
 LEAST = 2
 
 
@@ -47,6 +49,30 @@ def changed(crate, changes):
     return found - {None}
 
 
+def sentences(crate, changes):
+    """The theorems whose statements an edit changes, and the definitions."""
+    theorems, definitions = set(), set()
+    for file, old, _ in changes:
+        if file.startswith("specs/"):
+            source = (CRATES / crate / file).read_text()
+            *_, last = (head for head in STATED.finditer(source) if head.start() <= source.index(old))
+            (theorems if last[1] in ("", "pub ") else definitions).add(last[2])
+    return theorems, definitions
+
+
+def said_wrong(crate, edit, said, changes):
+    """The theorems that an edit makes wrong. Each has to be refused, and not for one that it cites. Of definitions an edit makes one wrong at most, and
+    then a theorem is refused that it leaves as it is."""
+    theorems, definitions = sentences(crate, changes)
+    own = {name for name, why in re.findall(r"error: `([^`]+)`: (.*)", said) if "was not admitted" not in why}
+    unsaid = sorted(theorems - own)
+    if unsaid:
+        raise Failed(f"{crate}/{edit}: {unsaid[0]} is not refused by itself")
+    if len(definitions) > 1 or definitions and not own - theorems:
+        raise Failed(f"{crate}/{edit}: no theorem is refused for the definitions that it changes: {', '.join(sorted(definitions))}")
+    return theorems
+
+
 def log_of(crate, edit):
     """What the prover said of an edit."""
     path = ROOT / "target" / "must-fail" / crate / edit / ".log"
@@ -68,20 +94,21 @@ def refused_alone(crate, edit, said, changes):
 
 
 def counted():
-    """How many edits there are, and in how many of them each function is made wrong."""
-    count, seen = 0, collections.Counter()
+    """How many edits there are, in how many of them each function is made wrong, and how many theorems are."""
+    count, seen, wrong = 0, collections.Counter(), 0
     for crate, edit, changes in edits():
         seen.update(refused_alone(crate, edit, log_of(crate, edit), changes))
+        wrong += len(said_wrong(crate, edit, log_of(crate, edit), changes))
         count += 1
-    return count, seen
+    return count, seen, wrong
 
 
 def page(driver):
     """Every edit is refused as it should be, and every public function is wrong by itself in two edits or more."""
-    count, seen = counted()
+    count, seen, wrong = counted()
     names = set(public())
     few = sorted(name for name in names if seen[name] < LEAST)
     if few:
         raise Failed(f"wrong by itself in fewer than {LEAST} edits: {', '.join(few)}")
-    return (f"{count} edits; {sum(seen.values())} wrong functions in them, each refused by itself, and none for a name or the "
-            f"shape of a proof; {len(names)} public functions, each wrong in {LEAST} edits or more")
+    return (f"{count} edits; {sum(seen.values())} wrong functions in them, and {wrong} wrong theorems, each refused by itself, and none for a "
+            f"name or the shape of a proof; {len(names)} public functions, each wrong in {LEAST} edits or more")

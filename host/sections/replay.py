@@ -5,6 +5,7 @@ import random
 import re
 import subprocess
 
+import extensions
 import harness
 import model
 import remembered
@@ -50,8 +51,9 @@ def hold_to_numbers(seen):
 
 
 def hold_to_algorithms(accepted):
-    """Fails if no reply was accepted under some algorithm, or no renewal from one to another or to the same."""
-    wanted = [("reply", each, each) for each in model.NAMES] + [("renew", *each) for each in itertools.product(model.NAMES, repeat=2)]
+    """Fails if no login was accepted under some algorithm, or no renewal, by Renew or by Reply, from one to another or to the same."""
+    pairs = itertools.product(("renew", "init"), model.NAMES, model.NAMES)
+    wanted = [("reply", each, each) for each in model.NAMES] + list(pairs)
     missing = [each for each in wanted if not accepted[each]]
     if missing:
         raise Failed(f"never accepted: {missing}")
@@ -109,6 +111,14 @@ def hold_to_remembered(seen):
     return ", ".join(f"{kind}: {seen[kind]}" for kind in remembered.KINDS)
 
 
+def hold_to_extended(seen):
+    """Fails if some kind of extended reply, of the challenge's mark or of the writer's calls was never shown."""
+    missing = [kind for kind in extensions.KINDS if not seen[kind]]
+    if missing:
+        raise Failed(f"never shown: {'; '.join(missing)}")
+    return ", ".join(f"{kind}: {seen[kind]}" for kind in extensions.KINDS)
+
+
 def ring_in(seen):
     """How many seeds are in the ring that shows. Round a ring of n, a seed is named again when n - 1 others were taken since, and most seeds that are
     named again are so by going round. The present seed, with none taken since, doesn't count."""
@@ -152,7 +162,8 @@ def misread(_driver):
 
 def at_random(driver):
     """Each script on the program; its calls that are in C through the driver too."""
-    seen, accepted, ticked, calls, in_c = collections.Counter(), collections.Counter(), collections.Counter(), 0, 0
+    seen, accepted, ticked, extended = (collections.Counter() for _ in range(4))
+    calls, in_c = 0, 0
     ways = {manner: collections.Counter() for manner in scripts.MANNERS}
     shown = {ring: collections.Counter() for ring in scripts.RINGS}
     for seed in SEEDS:
@@ -166,6 +177,7 @@ def at_random(driver):
         ticked += day.ticked
         ways[day.manner].update(lines_in(answer) for line, answer in answered if line == "dump")
         shown[day.ring] += remembered.kinds_in(*zip(*answered))
+        extended += extensions.kinds_in(*zip(*answered))
         lines, answers = zip(*[pair for pair in answered if pair[0].split(" ")[0] in harness.IN_C])
         harness.hold_to(lines, harness.asked(driver, lines), answers)
         calls, in_c = calls + len(answered), in_c + len(lines)
@@ -175,7 +187,7 @@ def at_random(driver):
     numbers = ", ".join(f"{number}: {seen[str(number)]}" for number in scripts.NUMBERS)
     return (f"{len(SEEDS)} scripts, {calls} calls, {in_c} of them through the driver too: same answers as the model "
             f"({hold_to_lines(sum(ways.values(), collections.Counter()))}; {hold_to_ticks(ticked)}; accepted, by algorithm, {hold_to_algorithms(accepted)}; "
-            f"{hold_to_remembered(sum(shown.values(), collections.Counter()))}; "
+            f"{hold_to_remembered(sum(shown.values(), collections.Counter()))}; {hold_to_extended(extended)}; "
             f"ok: {seen['ok']}, bad: {seen['bad']}, {numbers})")
 
 
@@ -198,7 +210,7 @@ INPUTS = [
     b"\n" * MOST, b"#" * MOST, b"x" * MOST, filled(b"new\n"),
     *(filled(name + b" " + b"61" * length + b"\n") for name in model.NAMES.values() for length in (4096, 4097)),
     b"md5 " + b"61" * ((MOST - 4) // 2), b"read " + b"20" * 500000 + b"\n",
-    b"reply 0 " + b"20" * 500000 + b"\n", b"gen 2 " + b"61" * 200000 + b" " + b"61" * 300000 + b" 1\n",
+    b"reply 0 " + b"20" * 500000 + b"\n", b"reply 0 " + b"3a" * 500000 + b"\n", b"gen 2 " + b"61" * 200000 + b" " + b"61" * 300000 + b" 1\n",
     b"prog " + b"0a" * 257 + b"\n", b"prog " + b"0a" * 500000 + b"\n", b"#\n" * (MOST // 2), b"new\n" * 5000,
 ]
 
@@ -234,4 +246,13 @@ MORE_NO_CALLS = [
     "renew 1 1 9 6464 - 20", "renew 1 1 9 6464 0000000000000000 2", "renew 1 256 9 6464 0000000000000000 20",
     "renew 1 9 6464 0000000000000000 20", "tick", "tick 100001", "tick -1", "tick 1e3",
     "tick 99999999999999999999999999", "tick 18446744073709551617", "dump 0", "DUMP", "dumps", "prog", "prog 0",
-    "words 0 10", "words 0000000000000000", "hex 0000000000000000 8193", "hex - 16", "wchal 1 6464 1", "card - - 1"]
+    "words 0 10", "words 0000000000000000", "hex 0000000000000000 8193", "hex - 16", "wchal 1 6464 1", "card - - 1",
+    "wext", "wext ", "wext i", "wext init-", "wext hex", "wext init-hex", "wext hex 0000000000000000", "wext  0000000000000000 96",
+    "wext - 0000000000000000 96", "wext HEX 0000000000000000 96", "wext words 0000000000000000 96",
+    "wext hex 0000000000000000 8193", "wext hex 000000000000000 96",
+    "wext hex 0000000000000000 96 ", "wext init-hex 0000000000000000 96", "wext init 0000000000000000 96", "wext init-hexa 0000000000000000 96",
+    "wext hex 0000000000000000 1 9 6464 0000000000000000 96", "wext i 0000000000000000 1 9 6464 0000000000000000 96",
+    "wext init-word 0000000000000000 256 9 6464 0000000000000000 96", "wext init-word 0000000000000000 1 65536 6464 0000000000000000 96",
+    "wext init-word 0000000000000000 1 9 646 0000000000000000 96", "wext init-word 0000000000000000 1 9 6464 000000000000000 96",
+    "wext init-word 0000000000000000 1 9 6464 0000000000000000", "wext init-word 0000000000000000 1 9 6464 0000000000000000 96 0",
+    "wextx hex 0000000000000000 96", "wext init-word 0000000000000000 1 9 - 0000000000000000 96", "wext hex 0000000000000000 96"]

@@ -54,10 +54,10 @@ def both(*seeds, line="-:0", ports="0:0,0:0,0:0,0:0"):
 
 SCENES = {
     "an account begins with one seed, in lower case": [
-        both(FIRST), *good("join 0 7"), renewed(b"Lift1"), both(b"lift1", FIRST), *good("join 1 7"), asked(1, b"otp-md5 99 lift1\n")],
+        both(FIRST), *good("join 0 7"), renewed(b"Lift1"), both(b"lift1", FIRST), *good("join 1 7"), asked(1, b"otp-md5 99 lift1 ext\n")],
     "from lift1 to lift2 and back: 63, and the turn and the challenge are as they were": [
         *taken(b"lift1", b"lift2"), *good("join 0 7", "tick 20"), *refused(b"lift1"), both(b"lift2", b"lift1", FIRST, line="0:40"),
-        asked(0, b"otp-md5 99 lift2\n"), (call("reply", 0, WORDS_7), "ok 99")],
+        asked(0, b"otp-md5 99 lift2 ext\n"), (call("reply", 0, WORDS_7), "ok 99")],
     "eight are remembered, newest first; after eight renewals the first is free, and the ninth takes it": [
         *(pair for number in range(1, 8) for pair in [*taken(LIFTS[number - 1]), both(*NEWEST_FIRST[8 - number:])]),
         *good("join 0 7"), *refused(FIRST, *LIFTS[:7]), both(*NEWEST_FIRST[1:], line="0:60"),

@@ -5,6 +5,7 @@ import pathlib
 import random
 import sys
 
+import extensions
 import harness
 import model
 import remembered
@@ -57,10 +58,25 @@ def refusals_can_fail(driver):
     ]
     change = ("src/lib.rt", "words[place % 16]", "words[0]")
     held = [lambda log=log: refused.refused_alone("wordlist", "an edit", log, [change]) for log in [alone, *said]]
-    found = [not fails(held[0]), *(fails(check) for check in held[1:])]
+    found = [not fails(held[0]), *(fails(check) for check in held[1:]), *theorems_refused()]
     if not all(found):
-        raise Failed(f"of the five, as they should be: {found}")
-    return f"{len(found)} logs: a wrong function that is not refused by itself is reported, and nothing else"
+        raise Failed(f"of the {len(found)}, as they should be: {found}")
+    return f"{len(found)} logs: a wrong function or theorem that is not refused by itself is reported, and nothing else"
+
+
+def theorems_refused():
+    """Two theorems made wrong in one edit, of which each is refused; one isn't, or only for what it cites. A definition beside them, for which another
+    theorem is refused, or none is; and two definitions."""
+    sums, seeds = ("specs/Demand3.antt", "TurnBegins p i 180 later", ""), ("specs/TablesMade.antt", "(s .rooms)) ≤ 4", "")
+    example, empty = ("specs/Examples.antt", "DUAL NUT", ""), ("specs/NoAccounts.antt", "answerWithout (Call.Remove id) =", "")
+    log = "".join(f"specs/A.antt:1:1: error: `{name}`: expected type\n" for name in ("turn-begins", "four-in-line"))
+    cited = "error: `four-in-line`: `turn-begins` was not admitted\n"
+    more = "error: `examples-hold`: differ\n"
+
+    def held(said, *changes):
+        return refused.said_wrong("demands", "an edit", said, changes)
+    return [not fails(held, log, sums, seeds), fails(held, log.partition("\n")[0], sums, seeds), fails(held, log.partition("\n")[0] + cited, sums, seeds),
+            not fails(held, log + more, sums, seeds, example), fails(held, log, sums, seeds, example), fails(held, log + more, sums, seeds, example, empty)]
 
 
 def gate_can_fail(driver):
@@ -115,6 +131,11 @@ def removed(*ids):
     return [(f"remove {id}", "ok") for id in ids]
 
 
+def by_reply(text, answer):
+    """Port 0 joins account 7 and replies."""
+    return [("join 0 7", "ok"), (call("reply", 0, text), answer)]
+
+
 # 31 accounts, and short scripts, each with what it shows, once and nothing else. A seed that shows nothing is one that only a wrong reader knows:
 # of an account that was removed, or forgot it, or had another room, or was in the table before the last.
 MANY = [pair for id in range(101, 132) for pair in enrolled(id, b"a")]
@@ -141,6 +162,11 @@ SHORT = [
     ([*MANY, *enrolled(7, b"lift1"), *removed(7), *NEW, *enrolled(8, b"dog1"), *renewed(b"lift1", id=8)], []),
     ([*enrolled(7, b"lift1"), *removed(7), *enrolled(7, b"dog1"), *NEW, *enrolled(7, b"cat1"), *renewed(b"lift1"), *renewed(b"dog1"),
       *NEW, *NEW, *enrolled(7, b"dog2"), *renewed(b"cat1")], ["ok, of the table before"]),
+    ([*enrolled(7, b"lift1"), *by_reply(b"init-hex:?: sha1\t9 lift2 :?", "ok 9"), *renewed(b"lift1", "no 63", algorithm=2),
+      *by_reply(b"init-word:?:md5 9 LIFT2:?", "no 63"), *by_reply(b"init-word:?:md5 9 dog1:?", "no 61"), *renewed(b"dog1")],
+     ["63, 0 back", "63, 1 back", "63 under the other algorithm", "ok after 61"]),
+    ([*enrolled(7, b"lift1"), *by_reply(b"hex:?", "ok 8"), *by_reply(b"init-hex:?:md5 9 lift1", "no 35"), *by_reply(b"init-hex:?:md5 9:?", "no 23"),
+      *by_reply(b"HEX:?:md5 9 lift1:?", "no 34")], []),
 ]
 
 
@@ -150,18 +176,87 @@ def memory():
             *without_each(replay.hold_to_remembered, remembered.KINDS)]
 
 
+def challenged(rest, used, ext):
+    return call("chal", b"otp-md5 5 dog2" + rest), f"ok 1 5 10 4 {used} {ext}"
+
+
+def replied(text, answer):
+    return call("reply", 0, text), answer
+
+
+SIX, OTHER_SIX, DIGITS = b"A A A A A A", b"A A A A A QQ", b"0" * 16
+# calls with their answers, and what each shows; what shows nothing is what only a wrong reader takes for it
+SHOWING = [
+    (replied(b"hex:" + DIGITS, "ok 8"), ["ok by hex"]), (replied(b"hex:" + b" " * 108 + DIGITS, "ok 8"), ["ok by hex", "ok, 128 bytes"]),
+    (replied(DIGITS, "ok 8"), []), (replied(b"hex:" + b" " * 107 + DIGITS, "ok 8"), ["ok by hex"]),
+    (replied(b":" * 257, "no 30"), ["30, 257 bytes", "30 before 34"]), (replied(b"hex:" + b" " * 253, "no 30"), ["30 by hex", "30, 257 bytes"]),
+    (replied(b"hex:" * 65, "no 30"), ["30 by hex", "30 before 35"]), (replied(b"HEX:", "no 34"), ["34, in upper case"]),
+    (replied(b"hex :", "no 34"), ["34, with a blank"]),
+    (replied(b":", "no 34"), ["34, no name"]), (replied(b"a:b:c", "no 34"), ["34, another name", "34 before 35"]),
+    (replied(b"a:", "no 60"), ["60 before 30 or 34"]),
+    (replied(b"hex:", "no 60"), []), (replied(b"hex::", "no 35"), ["35 by hex", "35, a login with a part too many"]),
+    (replied(b"init-hex:", "no 35"), ["35 by init-hex", "35, a renewal with a part too few"]),
+    (replied(b"hex:", "no 33"), ["33 by hex", "33, a login with nothing"]), (replied(b"word:" + DIGITS, "no 33"), ["33 by word", "33, hex for words"]),
+    (replied(b"hex:" + SIX, "no 33"), ["33 by hex", "33, words for hex"]),
+    (replied(b"hex:abe ace ada add bad a", "no 61"), ["61 by hex", "ok or 61, words as hex"]),
+    (replied(b"word:" + SIX, "no 61"), ["61 by word"]), (replied(b"word:" + OTHER_SIX, "no 31 000001"), ["31 by word"]),
+    (replied(b"init-word:A:md5 0499 a:" + SIX, "no 51"), ["51 by init-word", "51, a leading zero"]),
+    (replied(b"init-word:A:MD5 x a:" + SIX, "no 51"), ["51 by init-word", "51, a byte that is no digit", "51 before 21"]),
+    (replied(b"init-word:sha1:md5:A", "no 51"), ["51 by init-word", "51, no count", "51, the parameters in front"]),
+    (replied(b"init-hex:A: :A", "no 51"), ["51 by init-hex", "51, no count", "51, blank parameters", "51 before 21"]),
+    (replied(b"init-hex:A:MD5 9 _:A", "no 21"), ["21 by init-hex", "21, a name in upper case", "21 before 23 or 24"]),
+    (replied(b"init-hex:A:md5 9 a b:A", "no 24"), ["24 by init-hex", "24, a blank in the seed"]),
+    (replied(b"init-hex:A:md5 9 A:", "no 63"), ["63 by init-hex", "63, in upper case", "63 before 33"]),
+    (replied(b"init-hex:A:md5 9999 A:A", "ok 9999"), ["ok by init-hex", "ok, a count of 9999", "ok, a seed in upper case"]),
+    (replied(b"init-word:%s:md5 9 a:%s" % (SIX, OTHER_SIX), "no 31 000001"), ["31 by init-word", "31, the new password's marks"]),
+    (replied(b"init-word:%s:md5 9 a:%s" % (OTHER_SIX, SIX), "no 31 000001"), ["31 by init-word", "31, the present password's marks"]),
+    (replied(b"init-word:%s:md5 9 a:%s" % (OTHER_SIX, OTHER_SIX), "no 31 000001"), ["31 by init-word"]),
+    (replied(b"init-hex:A:md5 9 a: ", "no 33"), ["33 by init-hex", "33, the new password alone is blank"]),
+    (replied(b"init-hex: :md5 9 a:A", "no 33"), ["33 by init-hex", "33, the present password alone is blank"]),
+    (replied(b"hex:" + b" " * 109 + DIGITS, "ok 8"), ["ok by hex", "ok, 129 bytes"]), (replied(b"word:" + b" " * 251, "ok 8"), ["ok by word", "ok, 256 bytes"]),
+    (replied(b"init-word::::", "no 35"), ["35 by init-word", "35, a renewal with a part too many"]),
+    (replied(b"init-hex:A:md5 1 a:A", "no 51"), ["51 by init-hex", "51, a count of 1"]),
+    (replied(b"init-hex:A:md5 10000 a:A", "no 51"), ["51 by init-hex", "51, five digits or more"]),
+    (replied(b"init-hex:A:md5 2 a:A", "ok 2"), ["ok by init-hex", "ok, a count of 2"]),
+    (replied(b"init-hex:A:md5 9:A", "no 23"), ["23 by init-hex", "23, no seed"]),
+    (replied(b"init-hex:A:md5 9 %s:A" % (b"a" * 17), "no 23"), ["23 by init-hex", "23, 17 characters or more"]),
+    (replied(b"init-hex:A:md5 9 a_:A", "no 24"), ["24 by init-hex", "24, another character"]),
+    ((call("read", b"a:" + b" " * 127), "no 30"), ["30 by read, a colon"]),
+    (("renew 9 1 9 61 " + "0" * 16 + " " + "3a" * 129, "no 30"), ["30 by renew, a colon"]),
+    (challenged(b" ext,\n", 20, 1), ["mark 1, ext and a comma", "mark 1, ended by a newline"]),
+    ((call("read", b"a:"), "no 33"), ["33 by read, a colon"]), ((call("read", b"a"), "no 33"), []),
+    (("renew 9 1 9 61 " + "0" * 16 + " 3a", "no 33"), ["33 by renew, a colon"]),
+    (challenged(b" ext\n", 19, 1), ["mark 1, ext", "mark 1, ended by a newline"]),
+    (challenged(b" \text,a,\r ", 24, 1), ["mark 1, ext and a list", "mark 1, a carriage return in the list", "mark 1, past a tab", "mark 1, ended by a space"]),
+    (challenged(b" EXT\n", 15, 0), ["mark 0, EXT"]), (challenged(b" extra\n", 15, 0), ["mark 0, extra"]),
+    (challenged(b" ext\r\n", 15, 0), ["mark 0, ext and a carriage return"]),
+    (challenged(b" ext\t", 15, 0), ["mark 0, ended by a tab"]), (challenged(b" ext", 15, 0), ["mark 0, ended by nothing"]),
+    (challenged(b"\next\n", 15, 0), ["mark 0, after a newline"]), (challenged(b" a ext\n", 15, 0), ["mark 0, another token first"]),
+    (challenged(b" ", 15, 0), ["mark 0, nothing more"]), (challenged(b"\n", 15, 0), []),
+    ((call("wext", "hex", "0" * 16, 20), "ok 20 00 clean"), ["ok by the writer of hex"]), (("wext hex 1", "bad"), []),
+    (("wext init-hex 0 0", "bad"), ["bad, a renewal in the short form"]), (("wext hex 0 0 0 0 0 0", "bad"), ["bad, a login in the long form"]),
+    (("wext HEX 0 0", "bad"), ["bad, no type"]),
+]
+
+
+def extended():
+    """Each call as it should be read; and runs without some kind."""
+    return [*(extensions.kinds_in(*zip(pair)) == collections.Counter(due) for pair, due in SHOWING),
+            *without_each(replay.hold_to_extended, extensions.KINDS)]
+
+
 def coverage_can_fail(driver):
     """A run in which some refusal never came, or no reply was accepted under some algorithm, is found; so is one with few challenges, without
     some pattern of misread words, without some way of four ports in lines, with one line at a time, with a manner or a ring that doesn't show, or
-    without some kind of renewal."""
+    without some kind of renewal, of extended reply or of mark."""
     numbers_given = [*map(str, scripts.NUMBERS), *(f"21 by {name}" for name in scripts.TOLD),
                      *(f"31 with two marks or more by {name}" for name in scripts.READERS)]
-    accepted = [("reply", 1, 1), ("reply", 2, 2), ("renew", 1, 1), ("renew", 1, 2), ("renew", 2, 1), ("renew", 2, 2)]
+    accepted = [("reply", 1, 1), ("reply", 2, 2), *itertools.product(("renew", "init"), (1, 2), (1, 2))]
     made = list(replies.patterns(random.Random(64), 20))
     read = [f"ok {number} 1 10 1 12" for number in model.NAMES] * 2000 + [f"no {number}" for number in range(20, 26)]
     found = [*without_each(replay.hold_to_numbers, numbers_given), *without_each(replay.hold_to_algorithms, accepted),
              *without_each(replay.hold_to_lines, scripts.WAYS), fails(replay.hold_to_lines, collections.Counter([*scripts.WAYS, *[(1,)] * 40])),
-             *manners(), *rings(), *memory(),
+             *manners(), *rings(), *memory(), *extended(),
              not fails(replies.all_patterns, made), fails(replies.all_patterns, [(pattern, text.upper()) for pattern, text in made]),
              *(fails(replies.all_patterns, [each for each in made if each[0] != gone]) for gone in ("000000", "101010")),
              not fails(challenges.enough, read), *(fails(challenges.enough, read[at:][:len(read) - 1]) for at in (0, 1))]

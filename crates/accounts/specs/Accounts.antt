@@ -15,23 +15,23 @@ use Rattle.password.specs.Password.{numberOf}
 use Rattle.accounts.specs.Rooms.{Room, remembered, roomOf, free}
 use Rattle.accounts.specs.declared.Proposed.{Proposed}
 
--- Enrol and Renew: "Seeds are kept in lower case"; the password is "eight bytes"; R-1's algorithm is given by its number.
-abbrev pub withValues : ℕ → List (List ℕ) → ℕ → ℕ → List ℕ → List ℕ → Room
+-- Enrol and Renew: "Seeds are kept in lower case"; R-1's algorithm is given by its number.
+abbrev pub withValues : ℕ → List (List ℕ) → ℕ → ℕ → List ℕ → ℕ → Room
 withValues id older number count seed password = record {
   id = id;
   algorithm = algorithmIn (numbered number);
   seed = map lowerOf seed;
   older = older;
   count = count;
-  password = numberOf password;
+  password = password;
 }
 
--- Enrol: the account remembers one seed.
+-- Enrol: the password is "eight bytes"; the account remembers one seed.
 abbrev pub newRoom : ℕ → ℕ → ℕ → List ℕ → List ℕ → Room
-newRoom id number count seed password = withValues id [] number count seed password
+newRoom id number count seed password = withValues id [] number count seed (numberOf password)
 
 -- Renew: it remembers the new seed and the first seven of those that it remembered.
-abbrev pub renewedRoom : Room → ℕ → ℕ → List ℕ → List ℕ → Room
+abbrev pub renewedRoom : Room → ℕ → ℕ → List ℕ → ℕ → Room
 renewedRoom room number count seed password = withValues (room .id) (take 7 (remembered room)) number count seed password
 
 -- Reply, on a match: "store the reply, lower the count by 1". The rest stays, R-1's algorithm too.
@@ -58,7 +58,7 @@ isOneOf seed (other ∷ seeds) = same seed other || isOneOf seed seeds
 abbrev pub seedOther : List ℕ → Room → Checked
 seedOther seed present = must (not (isOneOf (map lowerOf seed) (remembered present))) Refusal.SeedSame
 
--- Enrol: 51, 21, 23, 24; R-1: "at enrolment and renewal an unknown algorithm gives 21 after 51".
+-- Enrol, and the writer of extended replies: 51, 21, 23, 24; R-1: "at enrolment and renewal an unknown algorithm gives 21 after 51".
 unfoldable pub newChecked : ℕ → ℕ → List ℕ → Checked
 newChecked number count seed = inOrder (countWithin count ∷ algorithmChecked (numbered number) ∷ seedChecked seed ∷ [])
 

@@ -1,5 +1,6 @@
 // What an account asks for, and what it becomes with the reply.
 ghost use mathlib.Core.Path.{_≡_};
+ghost use mathlib.Core.Bool.{true};
 ghost use Prim.Native.Nat.{ℕ, _-_};
 ghost use mathlib.Core.List.{List};
 ghost use lib.ListN.{length};
@@ -22,16 +23,16 @@ fn count_below(account: Account) -> u16
     account.count - 1
 }
 
-// Writes the account's challenge.
+// Writes the account's challenge, with the mark.
 pub fn write_challenge(account: Account, buf: &mut [u8]) -> Written
-    ensures answered { λ r. ⌜ r ≡ challengeWrittenBy (account .algorithm) (seedIn account) (account .count - 1) (length (now (buf .entry))) ⌝ }
-    ensures left { λ r. ⌜ now (buf .exit) ≡ leaves r (challengeText (account .algorithm) (seedIn account) (account .count - 1)) (now (buf .entry)) ⌝ }
+    ensures answered { λ r. ⌜ r ≡ challengeWrittenBy true (account .algorithm) (seedIn account) (account .count - 1) (length (now (buf .entry))) ⌝ }
+    ensures left { λ r. ⌜ now (buf .exit) ≡ leaves r (challengeText true (account .algorithm) (seedIn account) (account .count - 1)) (now (buf .entry)) ⌝ }
 {
     let seed = account.seed;
     let n = seed_len(account);
     let count = count_below(account);
     let algorithm = account.algorithm;
-    write_by(algorithm, &seed[..n], count as u32, buf)
+    write_by(true, algorithm, &seed[..n], count as u32, buf)
 }
 
 // The account one count down, with the password that was presented.

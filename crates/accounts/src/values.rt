@@ -24,7 +24,7 @@ use refusal::Checked;
 use refusal::Refusal;
 
 // 51.
-fn check_count(count: u16) -> Checked
+fn check_count(count: u32) -> Checked
     ensures { λ r. ⌜ r ≡ countWithin count ⌝ }
 {
     if (2 <= count) & (count <= 9999) {
@@ -56,8 +56,8 @@ fn in_order(first: Checked, second: Checked, last: Checked) -> Checked
     last
 }
 
-// What Enrol and Renew check: 51, 21, 23, 24.
-fn check_new(algorithm: u32, count: u16, seed: &[u8]) -> Checked
+// What Enrol and Renew check, and the writer of extended replies: 51, 21, 23, 24.
+pub fn check_new(algorithm: u32, count: u32, seed: &[u8]) -> Checked
     ensures { λ r. ⌜ r ≡ newChecked algorithm count (now (seed .entry)) ⌝ }
 {
     let counted = check_count(count);
@@ -79,7 +79,7 @@ fn check_values(
     requires { ⌜ length (now older) ≡ 3808 ⌝ }
     ensures { λ r. ⌜ r ≡ valuesChecked algorithm count (now (seed .entry)) (roomOf present (partOf (now (older .entry)) room)) ⌝ }
 {
-    let new = check_new(algorithm, count, seed);
+    let new = check_new(algorithm, count as u32, seed);
     if let Checked::Refused(_) = new {
         return new;
     }
@@ -106,11 +106,11 @@ fn account(
     algorithm: u32,
     count: u16,
     seed: &[u8],
-    password: &[u8; 8],
+    password: u64,
 ) -> Account
     requires { ⌜ length (now seed) ≤ 16 ⌝ }
     ensures { λ r. ⌜ ((part : List ℕ) → roomOf r part
-        ≡ withValues id (take «older_count» (inPlaces 7 part)) algorithm count (now (seed .entry)) (now (password .entry))) ⌝ }
+        ≡ withValues id (take «older_count» (inPlaces 7 part)) algorithm count (now (seed .entry)) password) ⌝ }
 {
     let mut kept = [0u8; 16];
     let len = put_lower(&mut kept, seed);
@@ -121,7 +121,7 @@ fn account(
         len,
         count,
         older_count,
-        password: number_of(*password),
+        password,
     }
 }
 
@@ -130,7 +130,7 @@ pub fn enrolment(id: u16, algorithm: u32, count: u16, seed: &[u8], password: &[u
     ensures { λ r. ⌜ ((part : List ℕ) → proposal r part ≡ proposed (newChecked algorithm count (now (seed .entry)))
         (newRoom id algorithm count (now (seed .entry)) (now (password .entry)))) ⌝ }
 {
-    let checked = check_new(algorithm, count, seed);
+    let checked = check_new(algorithm, count as u32, seed);
     if let Checked::Refused(_) = checked {
         return Proposed {
             checked,
@@ -139,7 +139,7 @@ pub fn enrolment(id: u16, algorithm: u32, count: u16, seed: &[u8], password: &[u
     }
     Proposed {
         checked,
-        account: account(id, 0, algorithm, count, seed, password),
+        account: account(id, 0, algorithm, count, seed, number_of(*password)),
     }
 }
 
@@ -151,13 +151,13 @@ pub fn renewal(
     algorithm: u32,
     count: u16,
     seed: &[u8],
-    password: &[u8; 8],
+    password: u64,
 ) -> Proposed
     requires { ⌜ room < 32 ⌝ }
     requires { ⌜ length (now older) ≡ 3808 ⌝ }
     ensures { λ r. ⌜ proposal r (partOf (remembering room present (now (older .entry))) room)
         ≡ proposed (valuesChecked algorithm count (now (seed .entry)) (roomOf present (partOf (now (older .entry)) room)))
-        (renewedRoom (roomOf present (partOf (now (older .entry)) room)) algorithm count (now (seed .entry)) (now (password .entry))) ⌝ }
+        (renewedRoom (roomOf present (partOf (now (older .entry)) room)) algorithm count (now (seed .entry)) password) ⌝ }
 {
     let checked = check_values(present, older, room, algorithm, count, seed);
     if let Checked::Refused(_) = checked {

@@ -1,7 +1,7 @@
 -- Laws of a card's checks: what holds of a card that is not refused.
 use Prim.Native.Nat.{ℕ, _≤_}
 use mathlib.Core.Path.{_≡_, refl}
-use mathlib.Core.Bool.{true, _&&_}
+use mathlib.Core.Bool.{Bool, true, _&&_}
 use mathlib.Core.List.{List}
 use native.Mathlib.Omega.{arith}
 use lib.Dec.{leb}
@@ -26,8 +26,9 @@ lines-good k n e =
     (leb-true 1 k (inner .0), leb-true k 99 (inner .1), leb-true k n (outer .1))
 
 -- a challenge with nothing wrong is read
-pub is-read : (c : Challenge) → challengeChecked c ≡ Checked.Good → (algorithm : Algorithm) × (n s l u : ℕ) × (c ≡ Challenge.Read algorithm n s l u)
-is-read (Challenge.Read algorithm n s l u) e = (algorithm, n, s, l, u, refl)
+pub is-read : (c : Challenge) → challengeChecked c ≡ Checked.Good → (algorithm : Algorithm) × (n s l u : ℕ) × (x : Bool)
+    × (c ≡ Challenge.Read algorithm n s l u x)
+is-read (Challenge.Read algorithm n s l u x) e = (algorithm, n, s, l, u, x, refl)
 is-read (Challenge.Refused why) e = let z : _≡_ {A = ℕ} 0 1 = cc in absurd (omega arith)
 
 module _ (phrase challenge : List ℕ) (k : ℕ) (e : cardChecked phrase challenge k ≡ Checked.Good) where

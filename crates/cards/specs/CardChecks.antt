@@ -13,11 +13,11 @@ use Rattle.cards.specs.declared.card_checks.Asked.{Asked}
 
 -- what is wrong with a challenge, and the count that it says
 abbrev pub challengeChecked : Challenge → Checked
-challengeChecked (Challenge.Read algorithm count start len used) = Checked.Good
+challengeChecked (Challenge.Read algorithm count start len used ext) = Checked.Good
 challengeChecked (Challenge.Refused why) = Checked.Refused why
 
 abbrev pub countOf : Challenge → ℕ
-countOf (Challenge.Read algorithm count start len used) = count
+countOf (Challenge.Read algorithm count start len used ext) = count
 countOf (Challenge.Refused why) = 0
 
 -- 70: "card lines not 1 to 99 or more than the count"

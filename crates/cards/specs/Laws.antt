@@ -30,7 +30,7 @@ pub card-generated : (phrase challenge : List ℕ) (k : ℕ) → cardChecked phr
 card-generated phrase challenge k e algorithm m h =
     let checks = checks-good phrase challenge k e in
     let read = is-read (challengeOf challenge) (checks .1) in
-    let low = read-count-low (read .0) (read .1) (read .2) (read .3) (read .4) challenge (read .5) in
-    let same = ap countOf (read .5) in
+    let low = read-count-low (read .0) (read .1) (read .2) (read .3) (read .4) (read .5) challenge (read .6) in
+    let same = ap countOf (read .6) in
     generated-good algorithm phrase (seedOf challenge) m (checks .0)
-    (read-seed-good (read .0) (read .1) (read .2) (read .3) (read .4) challenge (read .5)) (omega (arith, low, same))
+    (read-seed-good (read .0) (read .1) (read .2) (read .3) (read .4) (read .5) challenge (read .6)) (omega (arith, low, same))

@@ -36,6 +36,7 @@ pub fn algorithm_asked(challenge: &[u8]) -> Algorithm
             start: _,
             len: _,
             used: _,
+            ext: _,
         } => algorithm,
         Challenge::Refused(_) => Algorithm::Md5,
     }
@@ -55,6 +56,7 @@ pub fn count_asked(phrase: &[u8], challenge: &[u8], lines: u32) -> Asked
             start: _,
             len: _,
             used: _,
+            ext: _,
         } => lines_counted(lines, count),
         Challenge::Refused(why) => Asked::Refused(why),
     }

@@ -1,6 +1,6 @@
--- 01, Challenges: steps 1 to 5, "from left to right; the first fault is the answer", and what the writer writes.
+-- 01, Challenges, and 02, R-1 and R-6: steps 1 to 5, "from left to right; the first fault is the answer", and what the writer writes.
 use Prim.Native.Nat.{ℕ, _+_}
-use mathlib.Core.Bool.{Bool, false, cond, _||_}
+use mathlib.Core.Bool.{Bool, true, false, cond, _&&_, _||_}
 use mathlib.Core.List.{List, [], _∷_, _++_, map}
 use lib.Dec.{ltb, eqb}
 use lib.ListN.{length, take, drop}
@@ -67,11 +67,28 @@ step4 text = seedChecked (tokenAt text (seedAt text))
 abbrev pub step5 : List ℕ → Checked
 step5 text = must (terminated (drop (endOf text (seedAt text)) text)) Refusal.SeedUnended
 
--- "On success": R-1's algorithm, the count, where the seed stands, how long it is, "and the bytes used, terminator included"
+-- R-6: "`ext`, alone or with a comma list"
+unfoldable pub isMark : List ℕ → Bool
+isMark t = same t (codes "ext") || same (take 4 t) (codes "ext,")
+
+-- "the next token on the seed's line": where it starts, for a seed at a place. Behind a newline the seed's line is over; a token that
+-- starts with one is empty, and no mark.
+abbrev pub markAt : List ℕ → ℕ → ℕ
+markAt text start = nextAt text start
+
+-- The `ext` mark is "set when the next token on the seed's line is `ext`, alone or with a comma list, and is ended as a seed is".
+unfoldable pub hasMark : List ℕ → ℕ → Bool
+hasMark text start = isMark (tokenAt text (markAt text start)) && terminated (drop (endOf text (markAt text start)) text)
+
+-- "On success": "the bytes used, terminator included"; R-6: "the bytes used then include" the mark
+unfoldable pub usedBy : List ℕ → ℕ → ℕ
+usedBy text start = cond (hasMark text start) (endOf text (markAt text start) + 1) (endOf text start + 1)
+
+-- R-1's algorithm, the count, where the seed stands, how long it is, the bytes used, and R-6's mark
 abbrev pub found : List ℕ → Challenge
 found text =
     Challenge.Read (algorithmIn (named (tokenAt text 4))) (numberOf 10 (tokenAt text (countAt text))) (seedAt text)
-    (length (tokenAt text (seedAt text))) (endOf text (seedAt text) + 1)
+    (length (tokenAt text (seedAt text))) (usedBy text (seedAt text)) (hasMark text (seedAt text))
 
 unfoldable pub challengeOf : List ℕ → Challenge
 challengeOf text =
@@ -82,46 +99,51 @@ challengeOf text =
     (unless Challenge.Refused (step5 text)
     (found text)))))
 
--- the number and values of a challenge that was read: the algorithm's number, count, start, length and bytes used
-abbrev pub challengeNumbers : Challenge → Listing × ℕ × ℕ × ℕ × ℕ × ℕ
-challengeNumbers (Challenge.Read algorithm count start len used) = (unrefused, algorithmNumber algorithm, count, start, len, used)
-challengeNumbers (Challenge.Refused why) = (listingOf why, 0, 0, 0, 0, 0)
+-- the number and values of a challenge that was read: the algorithm's number, count, start, length, bytes used, and 1 for the mark
+abbrev pub challengeNumbers : Challenge → Listing × ℕ × ℕ × ℕ × ℕ × ℕ × ℕ
+challengeNumbers (Challenge.Read algorithm count start len used ext) = (unrefused, algorithmNumber algorithm, count, start, len, used, cond ext 1 0)
+challengeNumbers (Challenge.Refused why) = (listingOf why, 0, 0, 0, 0, 0, 0)
 
 -- the algorithm that a challenge asks for; after a refusal nobody asks
 abbrev pub algorithmOf : Challenge → Algorithm
-algorithmOf (Challenge.Read algorithm count start len used) = algorithm
+algorithmOf (Challenge.Read algorithm count start len used ext) = algorithm
 algorithmOf (Challenge.Refused why) = Algorithm.Md5
 
 -- "the seed is handed back as the part of the caller's bytes where it stands"; "After a refusal the part
 -- handed back is the empty one at the start": where the part starts, and how long it is
 abbrev pub startOf : Challenge → ℕ
-startOf (Challenge.Read algorithm count start len used) = start
+startOf (Challenge.Read algorithm count start len used ext) = start
 startOf (Challenge.Refused why) = 0
 
 abbrev pub lengthOf : Challenge → ℕ
-lengthOf (Challenge.Read algorithm count start len used) = len
+lengthOf (Challenge.Read algorithm count start len used ext) = len
 lengthOf (Challenge.Refused why) = 0
 
 abbrev pub seedOf : List ℕ → List ℕ
 seedOf text = take (lengthOf (challengeOf text)) (drop (startOf (challengeOf text)) text)
 
--- "The writer puts single spaces, the seed in lower case and a newline."
-unfoldable pub challengeText : Algorithm → List ℕ → ℕ → List ℕ
-challengeText algorithm seed count =
-    opening ++ algorithmName algorithm ++ 32 ∷ [] ++ decimalOf count ++ 32 ∷ [] ++ map lowerOf seed ++ 10 ∷ []
+-- what comes after the seed: "a newline"; R-6: "The table's Challenge writes ` ext` before its newline."
+unfoldable pub ending : Bool → List ℕ
+ending false = 10 ∷ []
+ending true = codes " ext" ++ 10 ∷ []
+
+-- "The writer puts single spaces, the seed in lower case and a newline", behind the mark where it is asked for.
+unfoldable pub challengeText : Bool → Algorithm → List ℕ → ℕ → List ℕ
+challengeText ext algorithm seed count =
+    opening ++ algorithmName algorithm ++ 32 ∷ [] ++ decimalOf count ++ 32 ∷ [] ++ map lowerOf seed ++ ending ext
 
 -- "the challenge writer 23, 24, 13, 40"
-unfoldable pub challengeWrittenBy : Algorithm → List ℕ → ℕ → ℕ → Written
-challengeWrittenBy algorithm seed count room =
+unfoldable pub challengeWrittenBy : Bool → Algorithm → List ℕ → ℕ → ℕ → Written
+challengeWrittenBy ext algorithm seed count room =
     unless Written.Refused (seedChecked seed)
-    (cond (ltb 9999 count) (Written.Refused Refusal.CountHigh) (writtenOf room (challengeText algorithm seed count)))
+    (cond (ltb 9999 count) (Written.Refused Refusal.CountHigh) (writtenOf room (challengeText ext algorithm seed count)))
 
--- R-1: "an unknown algorithm gives 21 .. at the .. challenge writer first". The algorithm is given by its number.
+-- R-1: "an unknown algorithm gives 21 .. at the .. challenge writer first". The algorithm is given by its number. This writer writes no mark.
 unfoldable pub challengeWritten : ℕ → List ℕ → ℕ → ℕ → Written
 challengeWritten number seed count room =
     unless Written.Refused (algorithmChecked (numbered number))
-    (challengeWrittenBy (algorithmIn (numbered number)) seed count room)
+    (challengeWrittenBy false (algorithmIn (numbered number)) seed count room)
 
 -- and the text that it writes
 abbrev pub textByNumber : ℕ → List ℕ → ℕ → List ℕ
-textByNumber number seed count = challengeText (algorithmIn (numbered number)) seed count
+textByNumber number seed count = challengeText false (algorithmIn (numbered number)) seed count

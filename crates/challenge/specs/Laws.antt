@@ -1,11 +1,10 @@
 -- Laws of tokens and their places, of what a challenge that is read says, and of the steps' answers.
-use Prim.Native.Nat.{ℕ, _+_, _≤_}
+use Prim.Native.Nat.{ℕ, _+_, _-_, _≤_, _<_}
 use mathlib.Core.Path.{_≡_, sym, _∙_, ap, ap₂}
-use mathlib.Core.Bool.{Bool, true, false}
-use mathlib.Core.List.{List}
+use mathlib.Core.Bool.{Bool, true, false, true≢false, or-false, cond, _||_}
+use mathlib.Core.List.{List, [], _∷_}
 use native.Mathlib.Omega.{arith}
 use lib.ListN.{length, take, drop, length-append, length-drop, length-map, length-take}
-use lib.Seq.{length-take-le}
 use Rattle.refusal.specs.declared.Refusal.{Refusal}
 use Rattle.refusal.specs.declared.Checked.{Checked}
 use Rattle.refusal.specs.Laws.{must-good, not-refused}
@@ -13,8 +12,8 @@ use Rattle.text.specs.Quoted.{codes}
 use Rattle.text.specs.Kinds.{inToken, isBlank}
 use Rattle.text.specs.Digits.{numberOf}
 use Rattle.text.specs.Scan.{runOf}
-use Rattle.text.specs.ScanLaws.{run-within}
-use Rattle.text.specs.Tests.{same, same-equal}
+use Rattle.text.specs.ScanLaws.{run-ends-within, stretch-length}
+use Rattle.text.specs.Tests.{same, same-equal, same-lengths}
 use Rattle.password.specs.declared.algorithm.Algorithm.{Algorithm}
 use Rattle.password.specs.declared.algorithm.Named.{Named}
 use Rattle.password.specs.Algorithm.{algorithmName, named}
@@ -24,6 +23,7 @@ use Rattle.text.specs.CountLaws.{count-low, length-decimal}
 use Rattle.challenge.specs.declared.reading.Challenge.{Challenge}
 use Rattle.challenge.specs.Challenges.{
   opening,
+  ending,
   challengeText,
   tokenAt,
   endOf,
@@ -38,21 +38,21 @@ use Rattle.challenge.specs.Challenges.{
   step5,
   found,
   challengeOf,
+  isMark,
+  markAt,
+  hasMark,
+  usedBy,
   startOf,
   lengthOf,
   seedOf,
 }
-use Rattle.challenge.specs.Inside.{seedFrom}
+use Rattle.challenge.specs.Inside.{readFrom, seedFrom}
 
 -- ---- tokens and their places
 
 pub length-token : (text : List ℕ) (at : ℕ) → length (tokenAt text at) ≡ runOf inToken (drop at text)
 unfolding tokenAt
-length-token text at = length-take-le (runOf inToken (drop at text)) (drop at text) (run-within inToken (drop at text))
-
--- a run from within the text ends within it
-pub run-ends-within : (test : ℕ → Bool) (text : List ℕ) (at : ℕ) → at ≤ length text → at + runOf test (drop at text) ≤ length text
-run-ends-within test text at h = omega (arith, run-within test (drop at text), length-drop at text)
+length-token text at = stretch-length inToken text at
 
 pub token-within : (text : List ℕ) (at : ℕ) → at ≤ length text → endOf text at ≤ length text
 token-within text at h = rw length-token (run-ends-within inToken text at h)
@@ -68,14 +68,14 @@ pub opened-long : (text : List ℕ) → same (take 4 text) opening ≡ true → 
 unfolding opening codes
 opened-long text e = omega (arith, length-take 4 text, ap length (same-equal (take 4 text) opening e))
 
-module _ (algorithm : Algorithm) (n s l u : ℕ) where
+module _ (algorithm : Algorithm) (n s l u : ℕ) (x : Bool) where
   -- a challenge is read only if each step finds nothing wrong
-  pub steps-good : (text : List ℕ) → challengeOf text ≡ Challenge.Read algorithm n s l u
+  pub steps-good : (text : List ℕ) → challengeOf text ≡ Challenge.Read algorithm n s l u x
       → (step1 text ≡ Checked.Good) × (step2 text ≡ Checked.Good) × (step3 text ≡ Checked.Good) × (step4 text ≡ Checked.Good) × (step5 text ≡ Checked.Good)
-      × (found text ≡ Challenge.Read algorithm n s l u)
+      × (found text ≡ Challenge.Read algorithm n s l u x)
   unfolding challengeOf
   steps-good text e =
-      let past = not-refused Challenge.Refused (Challenge.Read algorithm n s l u) (λ why f. let z : _≡_ {A = ℕ} 0 1 = cc in omega arith) in
+      let past = not-refused Challenge.Refused (Challenge.Read algorithm n s l u x) (λ why f. let z : _≡_ {A = ℕ} 0 1 = cc in omega arith) in
       let a = past (step1 text) _ e in
       let b = past (step2 text) _ (a .1) in
       let c = past (step3 text) _ (b .1) in
@@ -83,9 +83,9 @@ module _ (algorithm : Algorithm) (n s l u : ℕ) where
       let f = past (step5 text) _ (d .1) in
       (a .0, b .0, c .0, d .0, f .0, f .1)
 
-  module _ (text : List ℕ) (e : challengeOf text ≡ Challenge.Read algorithm n s l u) where
+  module _ (text : List ℕ) (e : challengeOf text ≡ Challenge.Read algorithm n s l u x) where
     good : (step1 text ≡ Checked.Good) × (step2 text ≡ Checked.Good) × (step3 text ≡ Checked.Good) × (step4 text ≡ Checked.Good) × (step5 text ≡ Checked.Good)
-        × (found text ≡ Challenge.Read algorithm n s l u)
+        × (found text ≡ Challenge.Read algorithm n s l u x)
     good = steps-good text e
 
     seed-starts : seedAt text ≡ s
@@ -121,12 +121,47 @@ module _ (algorithm : Algorithm) (n s l u : ℕ) where
         let same : numberOf 10 (tokenAt text (countAt text)) ≡ n = cc in
         omega (arith, count-low (tokenAt text (countAt text)) (must-good (isCount (tokenAt text (countAt text))) Refusal.CountUnread (good .2)))
 
+-- ---- the mark
+
+-- a token of fewer than four bytes is the mark only if it is `ext`, and a longer one only if it starts with `ext,`
+pub short-mark : (t : List ℕ) → length t < 4 → same t (codes "ext") ≡ isMark t
+unfolding isMark codes
+short-mark t h =
+    let other = same-lengths (take 4 t) (codes "ext,") (λ e. omega (arith, length-take 4 t)) in
+    sym (ap (λ (b : Bool). same t (codes "ext") || b) other ∙ or-false (same t (codes "ext")))
+
+pub long-mark : (t : List ℕ) → 4 ≤ length t → same (take 4 t) (codes "ext,") ≡ isMark t
+unfolding isMark codes
+long-mark t h = sym (ap (λ (b : Bool). b || same (take 4 t) (codes "ext,")) (same-lengths t (codes "ext") (λ e. omega arith)))
+
+-- the bytes used with the mark and without
+pub marked-used : (text : List ℕ) (start : ℕ) → hasMark text start ≡ true → endOf text (markAt text start) + 1 ≡ usedBy text start
+unfolding usedBy
+marked-used text start e = sym (ap (λ (b : Bool). cond b (endOf text (markAt text start) + 1) (endOf text start + 1)) e)
+
+pub unmarked-used : (text : List ℕ) (start : ℕ) → hasMark text start ≡ false → endOf text start + 1 ≡ usedBy text start
+unfolding usedBy
+unmarked-used text start e = sym (ap (λ (b : Bool). cond b (endOf text (markAt text start) + 1) (endOf text start + 1)) e)
+
+-- what stands behind a terminated token that is read lies within the text
+pub terminated-within : (text : List ℕ) (at : ℕ) → terminated (drop at text) ≡ true → at + 1 ≤ length text
+terminated-within text at e = by (drop at text) e (length-drop at text)
+  where
+    by : (rest : List ℕ) → terminated rest ≡ true → length rest ≡ length text - at → at + 1 ≤ length text
+    by [] f l = absurd (true≢false (sym f))
+    by (b ∷ rest) f l = omega arith
+
 -- ---- what is written
 
-pub length-challenge : (algorithm : Algorithm) (seed : List ℕ) (count : ℕ)
-    → length (challengeText algorithm seed count) ≡ length (algorithmName algorithm) + widthOf count + length seed + 7
+pub ending-few : (ext : Bool) → length (ending ext) ≤ 5
+unfolding ending codes
+ending-few true = omega arith
+ending-few false = omega arith
+
+pub length-challenge : (ext : Bool) (algorithm : Algorithm) (seed : List ℕ) (count : ℕ)
+    → length (challengeText ext algorithm seed count) ≡ length (algorithmName algorithm) + widthOf count + length seed + length (ending ext) + 6
 unfolding challengeText opening codes
-length-challenge algorithm seed count = simp (length-append, length-map) (omega (arith, length-decimal count))
+length-challenge ext algorithm seed count = simp (length-append, length-map) (omega (arith, length-decimal count))
 
 -- ---- the reader's answers, one for each way through the steps
 
@@ -161,7 +196,6 @@ module _ (text : List ℕ) (algorithm : Algorithm) (count start : ℕ) where
     unfolding seedFrom
     stop5 e = rw (e4, e)
 
-    pub all-good : terminated (drop (endOf text start) text) ≡ true
-        → seedFrom text algorithm count start ≡ Challenge.Read algorithm count start (length (tokenAt text start)) (endOf text start + 1)
+    pub all-good : terminated (drop (endOf text start) text) ≡ true → seedFrom text algorithm count start ≡ readFrom text algorithm count start
     unfolding seedFrom
     all-good e = rw (e4, e)

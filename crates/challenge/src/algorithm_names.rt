@@ -4,22 +4,15 @@ ghost use mathlib.Core.List.{[], _∷_, _++_};
 ghost use Prim.Native.Nat.{_+_, _≤_};
 ghost use lib.ListN.{length};
 ghost use Rattle.text.specs.Put.{Put};
-ghost use Rattle.text.specs.Tests.{same as sameText};
 ghost use Rattle.password.specs.Algorithm.{algorithmName, named};
 use password::algorithm::Algorithm;
 use password::algorithm::Named;
 use text::put::copy;
+use text::scan::same;
 
 const MD5: [u8; 3] = [b'm', b'd', b'5'];
 
 const SHA1: [u8; 4] = [b's', b'h', b'a', b'1'];
-
-// Whether two texts are the same.
-pub fn same(a: &[u8], b: &[u8]) -> bool
-    ensures { λ r. ⌜ r ≡ sameText (now (a .entry)) (now (b .entry)) ⌝ }
-{
-    check::same(a, b)
-}
 
 // The algorithm with that name, in lower case and whole.
 pub fn read_name(name: &[u8]) -> Named

@@ -8,7 +8,6 @@ ghost use Rattle.password.specs.Algorithm.{named};
 ghost use Rattle.challenge.specs.Challenges as spec;
 ghost use Rattle.challenge.specs.Inside as inside;
 use crate::algorithm_names::read_name;
-use crate::algorithm_names::same;
 use password::algorithm::Algorithm;
 use password::algorithm::Named;
 use password::phrase_and_seed::check_seed;
@@ -18,11 +17,18 @@ use text::counts::Counted;
 use text::counts::read_count;
 use text::kinds::Kind;
 use text::scan::run;
+use text::scan::same;
+use text::scan::stretch_at;
 
 // The four bytes that every challenge starts with.
 pub const OPENING: [u8; 4] = [b'o', b't', b'p', b'-'];
 
-// What a challenge says: its algorithm, its count, where in its bytes the seed stands, and how many bytes were used. Or what is wrong.
+const EXT: [u8; 3] = [b'e', b'x', b't'];
+
+const EXT_COMMA: [u8; 4] = [b'e', b'x', b't', b','];
+
+// What a challenge says: its algorithm, its count, where in its bytes the seed stands, how many bytes were used, and whether it has the mark `ext`: who
+// wrote it takes extended replies. Or what is wrong.
 pub enum Challenge {
     Read {
         algorithm: Algorithm,
@@ -30,6 +36,7 @@ pub enum Challenge {
         start: usize,
         len: usize,
         used: usize,
+        ext: bool,
     },
     Refused(Refusal),
 }
@@ -49,8 +56,7 @@ fn token(text: &[u8], at: usize) -> &[u8]
     requires { ⌜ at ≤ length (now text) ⌝ }
     ensures { λ r. ⌜ now r ≡ spec.tokenAt (now (text .entry)) at ⌝ }
 {
-    let end = at + run(text, at, Kind::Token);
-    &text[at..end]
+    stretch_at(text, at, Kind::Token)
 }
 
 // Where the token after the one at a place starts.
@@ -72,6 +78,16 @@ fn is_terminated(text: &[u8], at: usize) -> bool
     (text[at] == b' ') | (text[at] == b'\n')
 }
 
+// Whether a token is the mark: `ext`, alone or with a comma list.
+fn is_mark(t: &[u8]) -> bool
+    ensures { λ r. ⌜ r ≡ spec.isMark (now (t .entry)) ⌝ }
+{
+    if t.len() < 4 {
+        return same(t, &EXT);
+    }
+    same(&t[..4], &EXT_COMMA)
+}
+
 // The algorithm that the rest of the first token names.
 fn algorithm_from(text: &[u8]) -> Named
     requires { ⌜ 4 ≤ length (now text) ⌝ }
@@ -88,6 +104,35 @@ fn count_from(text: &[u8], at: usize) -> Counted
     read_count(token(text, at))
 }
 
+// What a challenge says once its steps found nothing wrong. The token after the seed starts at `mark`: where the seed is ended by a newline there is
+// none, since no token starts with that.
+fn read_from(text: &[u8], algorithm: Algorithm, count: u32, start: usize, len: usize) -> Challenge
+    requires { ⌜ (start ≤ length (now text)) × (len ≡ length (spec.tokenAt (now text) start)) × (start + len + 1 ≤ length (now text)) ⌝ }
+    ensures { λ r. ⌜ r ≡ inside.readFrom (now (text .entry)) algorithm count start ⌝ }
+{
+    let mark = next(text, start);
+    let said = token(text, mark);
+    let end = mark + said.len();
+    if is_mark(said) & is_terminated(text, end) {
+        return Challenge::Read {
+            algorithm,
+            count,
+            start,
+            len,
+            used: end + 1,
+            ext: true,
+        };
+    }
+    Challenge::Read {
+        algorithm,
+        count,
+        start,
+        len,
+        used: start + len + 1,
+        ext: false,
+    }
+}
+
 // The seed that starts at a place, and the byte after it: steps 4 and 5, once algorithm and count are known.
 fn seed_from(text: &[u8], algorithm: Algorithm, count: u32, start: usize) -> Challenge
     requires { ⌜ start ≤ length (now text) ⌝ }
@@ -98,17 +143,10 @@ fn seed_from(text: &[u8], algorithm: Algorithm, count: u32, start: usize) -> Cha
         return Challenge::Refused(why);
     }
     let len = seed.len();
-    let end = start + len;
-    if !is_terminated(text, end) {
+    if !is_terminated(text, start + len) {
         return Challenge::Refused(Refusal::SeedUnended);
     }
-    Challenge::Read {
-        algorithm,
-        count,
-        start,
-        len,
-        used: end + 1,
-    }
+    read_from(text, algorithm, count, start, len)
 }
 
 pub fn read(text: &[u8]) -> Challenge
@@ -139,6 +177,7 @@ pub fn seed_of(text: &[u8]) -> &[u8]
             start,
             len,
             used: _,
+            ext: _,
         } => {
             let end = start + len;
             &text[start..end]

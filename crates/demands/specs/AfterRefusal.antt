@@ -1,5 +1,5 @@
--- What is changed by the two refusals that change something, and that a refusal leaves every buffer as it was lent. (Of the bytes that Renew is
--- lent its own promise says it.)
+-- What is changed by the two refusals that change something, and that a refusal leaves every buffer as it was lent. (Of the bytes that Reply and
+-- Renew are lent their own promises say it.)
 use Prim.Native.Nat.{ℕ}
 use mathlib.Core.Path.{_≡_, ap}
 use mathlib.Core.Bool.{true}

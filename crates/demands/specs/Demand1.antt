@@ -23,14 +23,18 @@ use Rattle.hex.specs.Hex.{hexOf, sixteenDigits, hexReading}
 use Rattle.sixwords.specs.Spelling.{wordsOf}
 use Rattle.reply.specs.Reply.{sixWords, upperText, readingOf}
 use Rattle.reply.specs.Marked.{Marked}
+use Rattle.extended.specs.declared.reply_types.ReplyType.{ReplyType}
+use Rattle.extended.specs.ReplyTexts.{passwordBy}
+use Rattle.extended.specs.ReplyWriting.{textByNumbers, extendedWritten}
 use Rattle.cards.specs.Cards.{cardOf, cardWritten}
 use Rattle.cards.specs.Printed.{answerOf}
 use Rattle.accounts.specs.Rooms.{Room}
 use Rattle.accounts.specs.Accounts.{valuesChecked}
 use Rattle.table.specs.Table.{State}
-use Rattle.table.specs.Steps.{turnChecked, renewChecked}
+use Rattle.table.specs.Steps.{renewChecked}
 use Rattle.readback.specs.ReplyRefusals.{unknown-text, unknown-refused, marks-one}
 use Rattle.reached.specs.Calls.{Call, Answer, answer, numbers, after}
+use Rattle.reached.specs.Presented.{Presents, inReply, tableChecked, textChecked}
 use Rattle.reached.specs.InTurn.{Reached}
 use Rattle.grounds.specs.Listed.{isIn, listed, readNumber, writtenNumber, challengeNumber, Given}
 use Rattle.grounds.specs.Conditions.{
@@ -43,6 +47,9 @@ use Rattle.grounds.specs.Conditions.{
   roomRows,
   challengeRows,
   replyRows,
+  partRows,
+  saidRows,
+  extendedRows,
   cardRows,
   programRows,
   refusedWith,
@@ -57,7 +64,7 @@ use Rattle.grounds.specs.Refusing as Refusing
 use Rattle.grounds.specs.RefusingCalls.{call-exactly}
 use Rattle.grounds.specs.CardProgram as CardProgram
 use Rattle.grounds.specs.Unchanged.{refused-unchanged}
-use Rattle.grounds.specs.HandedOn.{reply-hands-on, renew-hands-on}
+use Rattle.grounds.specs.HandedOn.{call-hands-on, renew-hands-on}
 
 -- ---- the list
 
@@ -94,11 +101,12 @@ pub numbers-of-31 : (text : List ℕ) (m : ℕ) → readingOf text ≡ Reading.R
     → readingNumbers (readingOf text) ≡ (record { 0 = 31; 1 = m }, 0)
 numbers-of-31 text m e = ap readingNumbers e
 
--- Behind their checks, and only there, Reply and Renew answer with the marks of the text.
+-- Behind the table's checks, and only there, Reply and Renew answer with the marks of the text. Of an `init` reply they are those of the new
+-- password, or else of the present one.
 pub reply-passes-marks-on : (port : ℕ) (text : List ℕ) (s : State) (m : ℕ)
     → (answer (Call.Reply port text) s ≡ Answer.Refused (Refusal.WordUnknown m))
-    ↔ ((turnChecked port s ≡ Checked.Good) × (readingOf text ≡ Reading.Refused (Refusal.WordUnknown m)))
-reply-passes-marks-on port text s m = reply-hands-on (Refusal.WordUnknown m) refl refl port text s
+    ↔ ((tableChecked port (inReply text) s ≡ Checked.Good) × (textChecked (inReply text) ≡ Checked.Refused (Refusal.WordUnknown m)))
+reply-passes-marks-on port text s m = call-hands-on (Refusal.WordUnknown m) refl refl port _ _ s (Presents.by-reply text)
 
 pub renew-passes-marks-on : (port number count : ℕ) (seed new text : List ℕ) (s : State) (m : ℕ)
     → (answer (Call.Renew port number count seed new text) s ≡ Answer.Refused (Refusal.WordUnknown m))
@@ -118,9 +126,24 @@ pub generator-refusals : (number : ℕ) (phrase seed : List ℕ) (count : ℕ)
     → Exactly (readNumber (generated number phrase seed count)) (algorithmRows number ++ phraseRows phrase ++ seedRows seed ++ (13, ltb 9999 count) ∷ [])
 generator-refusals number phrase seed count = Refusing.generator-exactly number phrase seed count
 
--- 30 to 33
+-- 30 to 33, of a plain reply
 pub reply-refusals : (text : List ℕ) → Exactly (readNumber (readingOf text)) (replyRows text)
 reply-refusals text = Refusing.reply-exactly text
+
+-- R-6: a part with a password, by its type: 31 to 33
+pub part-refusals : (kind : ReplyType) (part : List ℕ) → Exactly (readNumber (passwordBy kind part)) (partRows kind part)
+part-refusals kind part = Refusing.part-exactly kind part
+
+-- The text of any reply, by itself: "34 unknown type, 35 a missing or extra part, both after 30", "then 31 to 33 for the new password and after it for
+-- the present one". What its parameters are refused with is among `call-refusals`.
+pub reply-text-refusals : (text : List ℕ) → Exactly (checkedNumbers (textChecked (inReply text)) .0) (saidRows (λ number count seed. []) text)
+reply-text-refusals text = Refusing.text-exactly text
+
+-- The writer of extended replies: 34, "then for `init` types 51, 21, 23, 24, then 40"
+pub extended-writer-refusals : (type password number count : ℕ) (seed : List ℕ) (new room : ℕ)
+    → Exactly (writtenNumber (extendedWritten type password number count seed new room))
+    (extendedRows type number count seed ++ roomRows room (textByNumbers type password number count seed new))
+extended-writer-refusals type password number count seed new room = Refusing.extended-writer-exactly type password number count seed new room
 
 -- 20 to 25
 pub challenge-refusals : (text : List ℕ) → Exactly (challengeNumber (challengeOf text)) (challengeRows text)

@@ -3,7 +3,7 @@
 -- written steps say is the promise of each call of `login`.
 use Prim.Native.Nat.{ℕ, _+_, _-_, _^_, _≤_, _<_}
 use mathlib.Core.Path.{_≡_, _∙_}
-use mathlib.Core.Bool.{true, false}
+use mathlib.Core.Bool.{Bool, true, false}
 use mathlib.Core.List.{List, [], _∷_, _++_, map}
 use mathlib.Core.Logic.{_↔_}
 use lib.ListN.{length, take}
@@ -63,13 +63,13 @@ pub hex-accepted-as : (text : List ℕ) → length text ≤ 128 → sixWords (to
     → (p : ℕ) → (readingOf text ≡ Reading.Password p) ↔ ((p < 2 ^ 64) × (map lowerOf (unspaced text) ≡ hexOf p))
 hex-accepted-as text h e p = Laws.hex-accepted text h e p
 
--- A challenge that is written is read back: the algorithm, the count, the seed in lower case, and all its bytes. The seed starts behind
--- `otp-`, the algorithm's name, the count and two spaces.
-pub challenge-read-back : (algorithm : Algorithm) (seed : List ℕ) (count : ℕ) → seedChecked seed ≡ Checked.Good → count ≤ 9999 →
-    let text = challengeText algorithm seed count in
-    (challengeOf text ≡ Challenge.Read algorithm count (6 + length (algorithmName algorithm) + widthOf count) (length seed) (length text))
+-- A challenge that is written is read back: the algorithm, the count, the seed in lower case, all its bytes, and R-6's mark where it was written with
+-- it, and only there. The seed starts behind `otp-`, the algorithm's name, the count and two spaces.
+pub challenge-read-back : (ext : Bool) (algorithm : Algorithm) (seed : List ℕ) (count : ℕ) → seedChecked seed ≡ Checked.Good → count ≤ 9999 →
+    let text = challengeText ext algorithm seed count in
+    (challengeOf text ≡ Challenge.Read algorithm count (6 + length (algorithmName algorithm) + widthOf count) (length seed) (length text) ext)
     × (seedOf text ≡ map lowerOf seed)
-challenge-read-back algorithm seed count good low = (written-read algorithm seed count good low, written-seed-read algorithm seed count good low)
+challenge-read-back ext algorithm seed count good low = (written-read ext algorithm seed count good low, written-seed-read ext algorithm seed count good low)
 
 -- The generator gives the password of this algorithm, pass-phrase, seed and count, for all that it takes. The algorithm is told by its number.
 pub generator-gives : (algorithm : Algorithm) (phrase seed : List ℕ) (count : ℕ)

@@ -14,7 +14,7 @@ use Rattle.dictionary.specs.Dictionary.{standsFrom, placeOf}
 use Rattle.sixwords.specs.Places.{pairs, pairSum, whole, cut, placesOf, joined, allPlaces, numberOf}
 use Rattle.text.specs.Counts.{isCount}
 use Rattle.password.specs.Algorithm.{algorithmName}
-use Rattle.challenge.specs.Challenges.{opening, tokenAt, nextAt, countAt, seedAt, challengeOf, challengeNumbers, seedOf}
+use Rattle.challenge.specs.Challenges.{opening, tokenAt, nextAt, countAt, seedAt, isMark, hasMark, usedBy, challengeOf, challengeNumbers, seedOf}
 use Rattle.text.specs.Tests.{same}
 use Rattle.hex.specs.Hex.{sixteenDigits, hexReading}
 use Rattle.reply.specs.Reply.{isWord, sixWords, marksOf, foundReading, readingOf}
@@ -30,7 +30,7 @@ pub data Asked : Type 0 where
 pub data Said : Type 0 where
   places : List ℕ → Said
   sum : ℕ → ℕ → Said
-  challenge : Listing × ℕ × ℕ × ℕ × ℕ × ℕ → List ℕ → Said
+  challenge : Listing × ℕ × ℕ × ℕ × ℕ × ℕ × ℕ → List ℕ → Said
   reply : Listing × ℕ → Said
 
 -- What the definitions say.
@@ -45,7 +45,7 @@ newline = 10 ∷ []
 
 -- A refusal by its number: of a challenge, of a reply. A reply's password.
 abbrev pub unread : ℕ → Said
-unread n = challenge (record { 0 = n; 1 = 0 }, 0, 0, 0, 0, 0) []
+unread n = challenge (record { 0 = n; 1 = 0 }, 0, 0, 0, 0, 0, 0) []
 
 abbrev pub refused : ℕ → Said
 refused n = reply (record { 0 = n; 1 = 0 }, 0)
@@ -68,17 +68,17 @@ examples =
     (replyFor (codes "FOWL KID MASH DEAD DUAL NUT"), refused 32) ∷
     (replyFor (codes "FOWL KID MASH DEAD DUAL O"), refused 32) ∷
     (replyFor (codes "FOWL KID MASH DEAD DUAL OAK"), refused 32) ∷
-    (challengeFor (codes "otp-md5 487 dog2" ++ newline), challenge (unrefused, 1, 487, 12, 4, 17) (codes "dog2")) ∷
+    (challengeFor (codes "otp-md5 487 dog2" ++ newline), challenge (unrefused, 1, 487, 12, 4, 17, 0) (codes "dog2")) ∷
     (challengeFor (codes "otp-md5 487 dog2"), unread 25) ∷
     (challengeFor (codes "otp-md5 0487 dog2" ++ newline), unread 22) ∷
-    (challengeFor (codes "otp-md5 1 SixteenLettersAA" ++ newline), challenge (unrefused, 1, 1, 10, 16, 27) (codes "SixteenLettersAA")) ∷
+    (challengeFor (codes "otp-md5 1 SixteenLettersAA" ++ newline), challenge (unrefused, 1, 1, 10, 16, 27, 0) (codes "SixteenLettersAA")) ∷
     (challengeFor (codes "otp-md5 1 SeventeenLettersA" ++ newline), unread 23) ∷
     (challengeFor (codes "otp-md5 1 Length_Okay" ++ newline), unread 24) ∷
     (replyFor (codes "85C4 3EE0 3857 765B"), password printed) ∷
     (replyFor (codes "85C4 3EE0 3857 765"), refused 33) ∷ []
 
 pub examples-hold : map (λ (e : Asked × Said). said (e .0)) examples ≡ map (λ (e : Asked × Said). e .1) examples
-unfolding codes runOf Digits.numberAfter every plain isCount opening algorithmName same tokenAt nextAt countAt seedAt challengeOf
+unfolding codes runOf Digits.numberAfter every plain isCount opening algorithmName same tokenAt nextAt countAt seedAt isMark hasMark usedBy challengeOf
     readingOf sixWords isWord marksOf foundReading sixteenDigits hexReading parted unspaced wordsIn lines words flatten standsFrom placeOf
     pairs pairSum whole cut placesOf joined allPlaces numberOf
 examples-hold = refl

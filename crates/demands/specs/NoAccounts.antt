@@ -15,6 +15,7 @@ use Rattle.accounts.specs.Accounts.{countWithin, newRoom}
 use Rattle.table.specs.Table.{State, lineOf, waits, withAccount}
 use Rattle.table.specs.TableChecks.{idGiven, portKnown, inLine, inFront}
 use Rattle.reached.specs.Calls.{Call, Answer, checkedAnswer, answer, after}
+use Rattle.reached.specs.Presented.{Presents}
 use Rattle.reached.specs.InTurn.{Reached}
 use Rattle.reached.specs.Equal.{accountsIn}
 use Rattle.grounds.specs.Keeps.{made}
@@ -28,8 +29,7 @@ use Rattle.grounds.specs.WithoutAccounts.{
   leave-outside,
   leave-answer,
   challenge-nobody,
-  reply-nobody,
-  renew-nobody,
+  presents-nobody,
   tick-cools,
 }
 
@@ -75,9 +75,10 @@ empty-answers s r none (Call.Remove id) = remove-nobody s none id .0
 empty-answers s r none (Call.Join port id) = join-nobody s none port id .0
 empty-answers s r none (Call.Leave port) = leave-outside s (made s r) none port .0
 empty-answers s r none (Call.Challenge port room) = challenge-nobody s none port room .0 ∙ ap checkedAnswer (turn-outside s (made s r) none port)
-empty-answers s r none (Call.Reply port text) = reply-nobody s none port text .0 ∙ ap checkedAnswer (turn-outside s (made s r) none port)
+empty-answers s r none (Call.Reply port text) =
+    presents-nobody s none port _ _ (Presents.by-reply text) .0 ∙ ap checkedAnswer (turn-outside s (made s r) none port)
 empty-answers s r none (Call.Renew port number count seed password text) =
-    renew-nobody s none port number count seed password text .0 ∙ ap checkedAnswer (turn-outside s (made s r) none port)
+    presents-nobody s none port _ _ (Presents.by-renew number count seed password text) .0 ∙ ap checkedAnswer (turn-outside s (made s r) none port)
 empty-answers s r none Call.Tick = refl
 
 pub empty-after : (s : State) → Reached s → accountsIn (s .rooms) ≡ 0 → (c : Call) → after c s ≡ afterWithout c s
@@ -86,8 +87,9 @@ empty-after s r none (Call.Remove id) = remove-nobody s none id .1
 empty-after s r none (Call.Join port id) = join-nobody s none port id .1
 empty-after s r none (Call.Leave port) = leave-outside s (made s r) none port .1
 empty-after s r none (Call.Challenge port room) = refl
-empty-after s r none (Call.Reply port text) = reply-nobody s none port text .1
-empty-after s r none (Call.Renew port number count seed password text) = renew-nobody s none port number count seed password text .1
+empty-after s r none (Call.Reply port text) = presents-nobody s none port _ _ (Presents.by-reply text) .1
+empty-after s r none (Call.Renew port number count seed password text) =
+    presents-nobody s none port _ _ (Presents.by-renew number count seed password text) .1
 empty-after s r none Call.Tick = tick-cools s (made s r) none
 
 -- "A table .. that no calls could make is still answered": there a port may be in line for an account that isn't there. Leave is done,
@@ -112,6 +114,7 @@ any-empty-answers s rooms none (Call.Remove id) = remove-nobody s none id .0
 any-empty-answers s rooms none (Call.Join port id) = join-nobody s none port id .0
 any-empty-answers s rooms none (Call.Leave port) = leave-answer port s
 any-empty-answers s rooms none (Call.Challenge port room) = challenge-nobody s none port room .0
-any-empty-answers s rooms none (Call.Reply port text) = reply-nobody s none port text .0
-any-empty-answers s rooms none (Call.Renew port number count seed password text) = renew-nobody s none port number count seed password text .0
+any-empty-answers s rooms none (Call.Reply port text) = presents-nobody s none port _ _ (Presents.by-reply text) .0
+any-empty-answers s rooms none (Call.Renew port number count seed password text) =
+    presents-nobody s none port _ _ (Presents.by-renew number count seed password text) .0
 any-empty-answers s rooms none Call.Tick = refl

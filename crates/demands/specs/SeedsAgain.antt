@@ -1,6 +1,7 @@
 -- R-5, remembered seeds. `remembered` has the seeds that an account remembers, newest first, the present one in front; `isOneOf` says that a
--- seed is one of those, `Renews` that a call renews the account: it is Renew, by the port that has the turn for it, and accepted. `following` has
--- the seeds that an account gets while calls are made, in order; `seedsAlong` has first the one that it has before them.
+-- seed is one of those. `Presents p (Presented.Renewal ..) c` says that with the call c the port p presents new values and passwords, by Renew or, R-6,
+-- by Reply with an `init` text; `Renews` that a call renews the account: it is one of these, by the port that has the turn for it, and accepted.
+-- `following` has the seeds that an account gets while calls are made, in order; `seedsAlong` has first the one that it has before them.
 use Prim.Native.Nat.{ℕ, _+_, _≤_, _<_}
 use mathlib.Core.Path.{_≡_, ap}
 use mathlib.Core.Logic.{_↔_}
@@ -9,6 +10,7 @@ use mathlib.Core.List.{List, [], _∷_, _++_, map, reverse}
 use lib.ListN.{length, getD, take, drop}
 use Rattle.refusal.specs.declared.Refusal.{Refusal}
 use Rattle.refusal.specs.declared.Checked.{Checked}
+use Rattle.refusal.specs.declared.Reading.{Reading}
 use Rattle.refusal.specs.Checks.{inOrder}
 use Rattle.refusal.specs.Each.{Each}
 use Rattle.text.specs.Kinds.{lowerOf}
@@ -18,16 +20,16 @@ use Rattle.password.specs.Algorithm.{numbered, algorithmChecked}
 use Rattle.password.specs.PhraseAndSeed.{seedChecked}
 use Rattle.accounts.specs.Rooms.{remembered, free}
 use Rattle.accounts.specs.Accounts.{countWithin, isOneOf}
-use Rattle.table.specs.declared.Replied.{Replied}
 use Rattle.table.specs.Table.{State, Held, placeOf, isThere, roomAt, accountOf, ownAccount}
-use Rattle.table.specs.Steps.{turnChecked, renew, enrol, remove}
+use Rattle.table.specs.Steps.{turnChecked, enrol, remove}
 use Rattle.reached.specs.Calls.{Call, Answer, answer, answers, after, run}
+use Rattle.reached.specs.Presented.{Presented, Presents}
 use Rattle.reached.specs.InTurn.{Reached, HasTurn}
 use Rattle.reached.specs.Day.{waitedFor}
 use Rattle.reached.specs.Made.{SeedGood, Different}
 use Rattle.reached.specs.SeedsHad.{keepsAccount, Renews, following, seedsAlong}
 use Rattle.grounds.specs.Keeps.{made, account-good}
-use Rattle.grounds.specs.Replies.{taken-renews}
+use Rattle.grounds.specs.Replies.{call-taken, taken-renews}
 use Rattle.grounds.specs.Isolated.{removed-free, enrolled-account}
 use Rattle.grounds.specs.Remembering as Remembering
 use Rattle.grounds.specs.SeedsAlong.{last-eight, eight-since-enrolled, seeds-differ, nine-apart}
@@ -35,34 +37,37 @@ use Rattle.grounds.specs.TenSeeds.{begun, renewing, renewal, nineRenewals, way-
 
 -- ---- "renewal shall refuse any of them, case folded"
 
--- What Renew checks before 63: 55, 59, 60, 58, 51, 21, 23, 24.
+-- What is checked before 63: 55, 59, 60, 58, 51, 21, 23, 24.
 abbrev pub beforeSame : ℕ → ℕ → ℕ → List ℕ → State → Checked
 beforeSame p number count seed s = inOrder (turnChecked p s ∷ countWithin count ∷ algorithmChecked (numbered number) ∷ seedChecked seed ∷ [])
 
 -- "63 now means equal to a remembered seed; its place in the order stays": on any table it is given exactly if the checks before it find
 -- nothing wrong and the new seed, in lower case, is one of those that the account remembers.
-pub refused-63-exactly : (p number count : ℕ) (seed new text : List ℕ) (s : State)
-    → (renew p number count seed new text s .answer ≡ Replied.Refused Refusal.SeedSame)
+pub refused-63-exactly : (p number count : ℕ) (seed : List ℕ) (new present : Reading) (c : Call) (s : State)
+    → Presents p (Presented.Renewal number count seed new present) c
+    → (answer c s ≡ Answer.Refused Refusal.SeedSame)
     ↔ ((beforeSame p number count seed s ≡ Checked.Good) × (isOneOf (map lowerOf seed) (remembered (ownAccount p s)) ≡ true))
-refused-63-exactly p number count seed new text s = Remembering.remembered-exactly p number count seed new text s
+refused-63-exactly p number count seed new present c s own = Remembering.remembered-exactly p number count seed new present c s own
 
 -- ---- "An account shall remember its last eight seeds, the present one included"
 
 -- An accepted renewal, on any table and whatever the algorithms: the new seed is none of those that the account remembered, and it remembers
 -- then the new one, in lower case, and the first seven of those.
-pub renewal-remembers : (p n number count : ℕ) (seed new text : List ℕ) (s : State)
-    → renew p number count seed new text s .answer ≡ Replied.Accepted n
+pub renewal-remembers : (p n number count : ℕ) (seed : List ℕ) (new present : Reading) (c : Call) (s : State)
+    → Presents p (Presented.Renewal number count seed new present) c → answer c s ≡ Answer.Count n
     → (isOneOf (map lowerOf seed) (remembered (ownAccount p s)) ≡ false)
-    × (remembered (waitedFor p s (renew p number count seed new text s .state)) ≡ map lowerOf seed ∷ take 7 (remembered (ownAccount p s)))
-renewal-remembers p n number count seed new text s e =
-    let renewed = taken-renews p n number count seed new text s e .1 in
+    × (remembered (waitedFor p s (after c s)) ≡ map lowerOf seed ∷ take 7 (remembered (ownAccount p s)))
+renewal-remembers p n number count seed new present c s own e =
+    let taken = call-taken p n (Presented.Renewal number count seed new present) s c own e in
+    let renewed = taken-renews p n number count seed new present s (after c s) taken .2 in
     (renewed .other, ap remembered (renewed .becomes))
 
 -- In tables that calls make it is the account with the id for which the port has the turn.
-pub renewal-remembers-by-id : (s : State) → Reached s → (p i n number count : ℕ) (seed new text : List ℕ) → HasTurn p i s
-    → renew p number count seed new text s .answer ≡ Replied.Accepted n
-    → remembered (accountOf i (renew p number count seed new text s .state)) ≡ map lowerOf seed ∷ take 7 (remembered (accountOf i s))
-renewal-remembers-by-id s r p i n number count seed new text t e = Remembering.renewed-by-id p i n number count seed new text s (made s r) t e
+pub renewal-remembers-by-id : (s : State) → Reached s → (p i n number count : ℕ) (seed : List ℕ) (new present : Reading) (c : Call) → HasTurn p i s
+    → Presents p (Presented.Renewal number count seed new present) c → answer c s ≡ Answer.Count n
+    → remembered (accountOf i (after c s)) ≡ map lowerOf seed ∷ take 7 (remembered (accountOf i s))
+renewal-remembers-by-id s r p i n number count seed new present c t own e =
+    Remembering.renewed-by-id p i n c s (made s r) t e number count seed new present own
 
 -- A refused or wrong renewal remembers nothing. Nor does any other call that is refused: on any table every account remembers what it did.
 pub refused-remembers-nothing : (why : Refusal) (c : Call) (s : State) → answer c s ≡ Answer.Refused why → (i : ℕ)
@@ -117,8 +122,7 @@ enrol-begins-with-one s i number count seed password e = ap remembered (enrolled
 -- Each renewal of the account adds its seed to those that it has one after the other,
 pub renewal-adds-one : (s : State) → Reached s → (i : ℕ) (c : Call) → Renews i s c
     → (calls : List Call) → seedsAlong i (c ∷ calls) s ≡ accountOf i s .seed ∷ seedsAlong i calls (after c s)
-renewal-adds-one s r i c (Renews.accepted p n number count seed new text t e) calls =
-    Remembering.renewed-adds p i n number count seed new text s (made s r) t e calls
+renewal-adds-one s r i c renewing calls = Remembering.renewed-adds i c s (made s r) renewing calls
 
 -- and no other call adds one: on any table, unless it removes the account.
 pub only-renewal-adds : (s : State) (i : ℕ) → isThere i s ≡ true → (c : Call) → keepsAccount i c ≡ true → (Renews i s c → ⊥)

@@ -7,6 +7,7 @@ use Rattle.panel.proofs.lift_password.Reads as lift-password
 use Rattle.panel.proofs.lift_read_reply.Reads as lift-read-reply
 use Rattle.panel.proofs.lift_write_hex.Reads as lift-write-hex
 use Rattle.panel.proofs.lift_write_words.Reads as lift-write-words
+use Rattle.panel.proofs.lift_write_extended.Reads as lift-write-extended
 use Rattle.panel.proofs.lift_read_challenge.Reads as lift-read-challenge
 use Rattle.panel.proofs.lift_write_challenge.Reads as lift-write-challenge
 use Rattle.panel.proofs.lift_write_card.Reads as lift-write-card
@@ -31,6 +32,9 @@ lift-write-hex-determined k a y z e f p q = both p q
 
 pub lift-write-words-determined : AnswersAndLent lift-write-words.Learnt (λ k e. now (e .1 .0))
 lift-write-words-determined k a y z e f p q = both p q
+
+pub lift-write-extended-determined : AnswersAndLent lift-write-extended.Learnt (λ k e. now (e .1 .1 .1 .1 .1 .1 .0))
+lift-write-extended-determined k a y z e f p q = both p q
 
 pub lift-read-challenge-determined : Answers lift-read-challenge.Learnt
 lift-read-challenge-determined k a y z e f p q = p ∙ sym q

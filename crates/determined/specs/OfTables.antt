@@ -25,6 +25,7 @@ use Rattle.table.proofs.held.account_at.Reads as account-at
 use Rattle.table.proofs.held.put.Reads as put
 use Rattle.accounts.proofs.values.enrolment.Reads as enrolment
 use Rattle.accounts.proofs.values.renewal.Reads as renewal
+use Rattle.accounts.proofs.values.check_new.Reads as check-new
 use Rattle.accounts.proofs.older.remember.Reads as remember
 use Rattle.accounts.proofs.lowered.write_challenge.Reads as write-challenge
 use Rattle.accounts.proofs.lowered.lower.Reads as lower
@@ -104,6 +105,9 @@ account-at-determined older k a y z e f p q = p older ∙ sym (q older)
 pub put-determined : (older : List ℕ) → AnswersSeen put.Learnt (λ k y. view y older)
 put-determined older k a y z e f p q = p older ∙ sym (q older)
 
+pub check-new-determined : Answers check-new.Learnt
+check-new-determined k a y z e f p q = p ∙ sym q
+
 pub enrolment-determined : (part : List ℕ) → AnswersSeen enrolment.Learnt (λ k y. proposal y part)
 enrolment-determined part k a y z e f p q = p part ∙ sym (q part)
 
@@ -119,7 +123,7 @@ write-challenge-determined k a y z e f p q = left _ _ p q
 pub lower-determined : (part : List ℕ) → AnswersSeen lower.Learnt (λ k y. roomOf y part)
 lower-determined part k a y z e f p q = p part ∙ sym (q part)
 
--- A table is seen by its view, beside the answer, and with the older seeds that Renew leaves.
+-- A table is seen by its view, beside the answer, and with the older seeds that Reply and Renew leave.
 pub table-fresh-determined : (older : List ℕ) → AnswersSeen table-fresh.Learnt (λ k y. view y older)
 table-fresh-determined older k a y z e f p q = p older ∙ sym (q older)
 
@@ -141,8 +145,8 @@ tick-determined older k a y z e f p q = p older ∙ sym (q older)
 pub challenge-determined : AnswersAndLent challenge.Learnt (λ k e. now (e .1 .1 .0))
 challenge-determined k a y z e f p q = left _ _ (p .0 [], p .1 []) (q .0 [], q .1 [])
 
-pub reply-determined : (older : List ℕ) → AnswersSeen reply.Learnt (λ k y. answered y older)
-reply-determined older k a y z e f p q = p older ∙ sym (q older)
+pub reply-determined : AsSeen reply.Learnt (λ k a y e. answered y (now (e .1 .0)))
+reply-determined k a y z e f p q = p .0 ∙ sym (q .0)
 
 pub renew-determined : AsSeen renew.Learnt (λ k a y e. answered y (now (e .1 .0)))
 renew-determined k a y z e f p q = p .0 ∙ sym (q .0)

@@ -1,4 +1,4 @@
--- The promises of `wordlist`, `hex`, `sixwords` and `reply` determine their results.
+-- The promises of `wordlist`, `hex`, `sixwords`, `reply` and `extended` determine their results.
 use mathlib.Core.Path.{sym, _∙_}
 use denote.Ref.{now}
 use Rattle.wordlist.proofs.word_at.Reads as word-at
@@ -9,6 +9,10 @@ use Rattle.hex.proofs.write_hex.Reads as write-hex
 use Rattle.sixwords.proofs.spelling.words_length.Reads as words-length
 use Rattle.sixwords.proofs.spelling.write_words.Reads as write-words
 use Rattle.reply.proofs.read.Reads as read
+use Rattle.reply.proofs.read_six.Reads as read-six
+use Rattle.extended.proofs.reply_types.read_type.Reads as read-type
+use Rattle.extended.proofs.reply_texts.read.Reads as read-text
+use Rattle.extended.proofs.reply_writer.write.Reads as write-extended
 use Rattle.determined.specs.Determined.{Answers, AnswersAndLent, left}
 
 pub word-at-determined : Answers word-at.Learnt
@@ -34,3 +38,15 @@ write-words-determined k a y z e f p q = left _ _ p q
 
 pub read-determined : Answers read.Learnt
 read-determined k a y z e f p q = p ∙ sym q
+
+pub read-six-determined : Answers read-six.Learnt
+read-six-determined k a y z e f p q = p ∙ sym q
+
+pub read-type-determined : Answers read-type.Learnt
+read-type-determined k a y z e f p q = p ∙ sym q
+
+pub read-text-determined : Answers read-text.Learnt
+read-text-determined k a y z e f p q = p ∙ sym q
+
+pub write-extended-determined : AnswersAndLent write-extended.Learnt (λ k e. now (e .1 .1 .1 .1 .1 .1 .0))
+write-extended-determined k a y z e f p q = left _ _ p q

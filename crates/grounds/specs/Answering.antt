@@ -1,5 +1,5 @@
 -- In a port's turn the challenge is written and read, the generator answers it, and the reply is accepted, at once or later in the turn.
-use Prim.Native.Nat.{ℕ, zero, suc, _+_, _-_, _≤_, _<_}
+use Prim.Native.Nat.{ℕ, zero, suc, _+_, _-_, _^_, _≤_, _<_}
 use native.Mathlib.Omega.{arith}
 use mathlib.Core.Path.{_≡_, refl, sym, ap, ap₂, _∙_, subst}
 use mathlib.Core.Bool.{Bool, true, false, true≢false, cond, _||_}
@@ -10,6 +10,8 @@ use lib.ListN.{length, getD, set, take, drop}
 use lib.Seq.{take-at}
 use Rattle.refusal.specs.declared.Checked.{Checked}
 use Rattle.refusal.specs.declared.Reading.{Reading}
+use Rattle.refusal.specs.Numbers.{passwordIn}
+use Rattle.refusal.specs.Each.{Each, each-weaker}
 use Rattle.text.specs.Kinds.{isUpper, isLower, isLetter, isDigit, lowerOf}
 use Rattle.text.specs.Tests.{every, cases, both, second-fails}
 use Rattle.text.specs.Put.{front as put}
@@ -18,32 +20,42 @@ use Rattle.password.specs.declared.algorithm.Algorithm.{Algorithm}
 use Rattle.password.specs.Algorithm.{algorithmNumber, algorithmName, numbered, algorithmIn}
 use Rattle.password.specs.Laws.{generated-good, generated-numbered}
 use Rattle.password.specs.Bounds.{password-bound}
-use Rattle.password.specs.Password.{numberOf, bytesOf, hash, password, generated}
+use Rattle.password.specs.Password.{bytesOf, hash, password, generated}
 use Rattle.text.specs.Counts.{widthOf}
+use Rattle.challenge.specs.declared.reading.Challenge.{Challenge}
 use Rattle.challenge.specs.Challenges.{challengeOf, seedOf, challengeWrittenBy}
 use Rattle.readback.specs.ChallengeRead.{written-read, written-seed-read}
 use Rattle.hex.specs.Hex.{hexOf}
 use Rattle.sixwords.specs.Spelling.{wordsOf}
 use Rattle.reply.specs.Reply.{readingOf}
+use Rattle.extended.specs.declared.reply_types.ReplyType.{ReplyType}
+use Rattle.extended.specs.declared.reply_texts.ReplyText.{ReplyText}
+use Rattle.extended.specs.ReplyTexts.{replyTextOf}
+use Rattle.extended.specs.ReplyWriting.{renewalChecked, extendedText}
 use Rattle.readback.specs.ReplyRead.{hex-written-read, words-written-read}
+use Rattle.readback.specs.ExtendedRead.{extended-written-read}
+use Rattle.readback.specs.ExtendedMeaning.{plain-read}
 use Rattle.table.specs.declared.Replied.{Replied}
 use Rattle.accounts.specs.Rooms.{Room}
 use Rattle.line.specs.Line.{left}
 use Rattle.table.specs.Table.{State, Held, freeRoom, placeOf, accountOf, standsAt, ownRoom, ownAccount, lined}
 use Rattle.table.specs.Steps as Steps
-use Rattle.accounts.specs.Accounts.{renewedRoom, lowered}
+use Rattle.accounts.specs.Accounts.{lowered}
 use Rattle.table.specs.Steps.{turnChecked, challengeFor, challenge}
 use Rattle.reached.specs.Calls.{Call, run}
+use Rattle.reached.specs.Presented.{Presented, nextOf}
+use Rattle.reached.specs.PresentedLaws.{next-id}
 use Rattle.reached.specs.InTurn.{quiet, HasTurn}
 use Rattle.reached.specs.Outcome.{turn-good}
 use Rattle.reached.specs.RoomsFound.{placed-id}
 use Rattle.reached.specs.RoomsChanged.{there-parts, same-place}
 use Rattle.reached.specs.LinesChanged.{lined-place}
-use Rattle.reached.specs.Day.{waitedFor, passwordOf, Accepts, Day}
+use Rattle.reached.specs.Day.{waitedFor, passwordOf, Accepts, repliesOf, Day}
 use Rattle.reached.specs.Made.{isKept, SeedGood, AccountGood, Made}
 use Rattle.grounds.specs.Keeps.{account-good, made-run, turn-there, turn-account, turn-has}
 use Rattle.grounds.specs.Owned.{turn-keeps, challenge-kept}
-use Rattle.grounds.specs.Replies.{Taken, accepted-account, turn-checked, reply-accepted, reply-taken, taken-renewal, taken-renews}
+use Rattle.grounds.specs.Replies.{Taken, accepted-account, turn-checked, reply-accepted, taken-renews}
+use Rattle.grounds.specs.PlainTexts.{read-plain}
 
 -- ---- seeds as they are kept
 
@@ -74,6 +86,29 @@ kept-seed (b ∷ s) e =
 pub seed-checked : (seed : List ℕ) → SeedGood seed → seedChecked seed ≡ Checked.Good
 seed-checked seed good = rw (le-leb 1 (length seed) (good .from), le-leb (length seed) 16 (good .to), kept-seed seed (good .kept) .1)
 
+-- ---- the four replies
+
+-- The text says this password, to log in.
+abbrev SaysLogin : ℕ → List ℕ → Type 0
+SaysLogin p text = replyTextOf text ≡ ReplyText.Login (Reading.Password p)
+
+-- A plain text that reads as it does.
+plain-says : (p : ℕ) (text : List ℕ) → readingOf text ≡ Reading.Password p → SaysLogin p text
+plain-says p text e = plain-read text (read-plain text p e) ∙ ap ReplyText.Login e
+
+replies-say : (p : ℕ) → p < 2 ^ 64 → Each (SaysLogin p) (repliesOf p)
+unfolding extendedText renewalChecked
+replies-say p small = (
+  plain-says p (hexOf p) (hex-written-read p small),
+  (
+    plain-says p (wordsOf p) (words-written-read p small),
+    (
+      extended-written-read ReplyType.Hex p 1 2 [] p small small refl .said,
+      (extended-written-read ReplyType.Word p 1 2 [] p small small refl .said, tt),
+    ),
+  ),
+)
+
 -- ---- the day, for the account whose turn it is
 
 -- One more hash of what the pass-phrase gives at a count is what it gives at the next.
@@ -96,15 +131,20 @@ accepted-by-id p i next s at there same =
     ∙ accepted-account p next s (subst (λ (k : ℕ). k < length (s .rooms)) (sym at) there)
 
 -- What an accepted reply or renewal of the port that has the turn for i leaves of that account.
-pub taken-by-id : (p i n : ℕ) (text : Reading) (next : ℕ → Room) (s state : State) → Made s → HasTurn p i s
-    → (r : Taken p n text next s state) → next (r .taken) .id ≡ ownAccount p s .id → waitedFor p s state ≡ accountOf i state
-taken-by-id p i n text next s state m t r same =
+pub taken-by-id : (p i n : ℕ) (what : Presented) (s state : State) → Made s → HasTurn p i s → Taken p n what s state
+    → waitedFor p s state ≡ accountOf i state
+taken-by-id p i n what s state m t r =
     let at = turn-there p i s m t .3 in
     let there = there-parts i (s .rooms) (turn-there p i s m t .0) .1 in
     let id = ap (λ (room : Room). room .id) (turn-account p i s m t) ∙ placed-id i (s .rooms) there in
+    let next = nextOf what (ownAccount p s) in
     ap (waitedFor p s) (r .left)
-    ∙ accepted-account p (next (r .taken)) s (subst (λ (k : ℕ). k < length (s .rooms)) (sym at) there)
-    ∙ sym (ap (accountOf i) (r .left) ∙ accepted-by-id p i (next (r .taken)) s at there (same ∙ id))
+    ∙ accepted-account p next s (subst (λ (k : ℕ). k < length (s .rooms)) (sym at) there)
+    ∙ sym (ap (accountOf i) (r .left) ∙ accepted-by-id p i next s at there (next-id what (ownAccount p s) ∙ id))
+
+-- Where the seed starts in the challenge for an account: behind `otp-`, the algorithm's name, the count and two spaces.
+abbrev pub seedPlace : Room → ℕ
+seedPlace account = 6 + length (algorithmName (account .algorithm)) + widthOf (account .count - 1)
 
 -- The port that has the turn for the account i: where it stands, and what it waits for.
 module _ (p i : ℕ) (phrase : List ℕ) (s : State) (m : Made s) (t : HasTurn p i s) where
@@ -120,9 +160,26 @@ module _ (p i : ℕ) (phrase : List ℕ) (s : State) (m : Made s) (t : HasTurn p
   with-id : ownAccount p s .id ≡ i
   with-id = ap (λ (room : Room). room .id) own ∙ placed-id i (s .rooms) there
 
-  -- A text that reads as the password one count down is accepted.
+  own-good : AccountGood (ownAccount p s)
+  own-good = subst AccountGood (sym own) (account-good i s (turn-there p i s m t .0) (m .good))
+
+  -- The challenge reads back, with the mark, and its seed is the account's.
+  own-challenge-read : (let account = ownAccount p s in
+      (challengeOf (challengeFor p s) ≡ Challenge.Read (account .algorithm) (account .count - 1) (seedPlace account) (length (account .seed))
+      (length (challengeFor p s)) true)
+      × (seedOf (challengeFor p s) ≡ account .seed))
+  own-challenge-read =
+      let account = ownAccount p s in
+      let right = seed-checked (account .seed) (own-good .seeds .0) in
+      let most = own-good .count-to in
+      let low : account .count - 1 ≤ 9999 = omega arith in (
+        written-read true (account .algorithm) (account .seed) (account .count - 1) right low,
+        written-seed-read true (account .algorithm) (account .seed) (account .count - 1) right low ∙ kept-seed (account .seed) (own-good .seeds .0 .kept) .0,
+      )
+
+  -- A text that says the password one count down is accepted.
   reads-accepted : turnChecked p s ≡ Checked.Good → ownAccount p s .password ≡ passwordOf phrase (ownAccount p s) (ownAccount p s .count)
-      → (text : List ℕ) → readingOf text ≡ Reading.Password (passwordOf phrase (ownAccount p s) (ownAccount p s .count - 1))
+      → (text : List ℕ) → replyTextOf text ≡ ReplyText.Login (Reading.Password (passwordOf phrase (ownAccount p s) (ownAccount p s .count - 1)))
       → Accepts p i text (ownAccount p s .count - 1) (passwordOf phrase (ownAccount p s) (ownAccount p s .count - 1)) s
   reads-accepted checked stored text r =
       let old = ownAccount p s in
@@ -155,36 +212,46 @@ module _ (p i : ℕ) (phrase : List ℕ) (s : State) (m : Made s) (t : HasTurn p
       let algorithm = old .algorithm in
       let seed = old .seed in
       let count = old .count - 1 in
-      let good = subst AccountGood (sym own) (account-good i s (facts .0) (m .good)) in
-      let keeps = kept-seed seed (good .seeds .0 .kept) in
-      let right = seed-checked seed (good .seeds .0) in
-      let most = good .count-to in
+      let right = seed-checked seed (own-good .seeds .0) in
+      let most = own-good .count-to in
       let low : count ≤ 9999 = omega arith in
       let checked = turn-checked p s (facts .1) (facts .2) (turn-has p i s m t) (λ z. there-parts i (s .rooms) (facts .0) .0 (sym with-id ∙ z)) unused in
       let new = password algorithm phrase seed count in
       let small = password-bound algorithm phrase seed count in
       let text = challengeFor p s in
       let written : take (length text) (put text buffer) ≡ text = take-at text (drop (length text) buffer) (length text) refl in
-      let seed-read = ap seedOf written ∙ written-seed-read algorithm seed count right low ∙ keeps .0 in
+      let seed-read = ap seedOf written ∙ own-challenge-read .1 in
+      let accepts = reads-accepted checked stored in
       record {
         written = length text;
         algorithm = algorithm;
         count = count;
-        start = 6 + length (algorithmName algorithm) + widthOf count;
+        start = seedPlace old;
         len = length seed;
         used = length text;
         generated-as = new;
         challenge-written = rw (checked, right, le-ltb 9999 count low, le-leb (length text) (length buffer) room);
-        challenge-read = ap challengeOf written ∙ written-read algorithm seed count right low;
+        challenge-read = ap challengeOf written ∙ own-challenge-read .0;
         password-generated =
             ap (λ (q : List ℕ). generated (algorithmNumber algorithm) phrase q count) seed-read
             ∙ generated-numbered algorithm phrase seed count ∙ generated-good algorithm phrase seed count long right low;
         algorithm-own = ap (λ (r : Room). r .algorithm) own;
         count-less = omega (arith, ap (λ (r : Room). r .count) own);
         generated-is = ap (λ (r : Room). passwordOf phrase r count) own;
-        hex-accepted = reads-accepted checked stored (hexOf new) (hex-written-read new small);
-        words-accepted = reads-accepted checked stored (wordsOf new) (words-written-read new small);
+        says-accepted = accepts;
+        each-accepted = each-weaker (SaysLogin new) (λ (text : List ℕ). Accepts p i text count new s) accepts (repliesOf new) (replies-say new small);
       }
+
+-- The challenge for the account i.
+pub challenge-read-marked : (p i : ℕ) (s : State) → Made s → HasTurn p i s →
+    let account = accountOf i s in
+    (challengeOf (challengeFor p s) ≡ Challenge.Read (account .algorithm) (account .count - 1) (seedPlace account) (length (account .seed))
+    (length (challengeFor p s)) true)
+    × (seedOf (challengeFor p s) ≡ account .seed)
+challenge-read-marked p i s m t =
+    subst (λ (account : Room). (challengeOf (challengeFor p s) ≡ Challenge.Read (account .algorithm) (account .count - 1) (seedPlace account)
+    (length (account .seed)) (length (challengeFor p s)) true) × (seedOf (challengeFor p s) ≡ account .seed))
+    (turn-account p i s m t) (own-challenge-read p i [] s m t)
 
 pub day : (p i : ℕ) (phrase buffer : List ℕ) (s : State) → Made s → HasTurn p i s → 1 < accountOf i s .count → phraseChecked phrase ≡ Checked.Good
     → accountOf i s .password ≡ passwordOf phrase (accountOf i s) (accountOf i s .count)
@@ -203,10 +270,6 @@ day-then p i phrase buffer s t same now next =
     let counts : next .count ≡ now .count = omega (arith, now .count-less, next .count-less, ap (λ (room : Room). room .count) same) in
     let one : next .generated-as ≡ now .generated-as =
     next .generated-is ∙ (λ k. passwordOf phrase (same k) (counts k)) ∙ sym (now .generated-is) in
-    let accepts : (text : ℕ → List ℕ) → Accepts p i (text (next .generated-as)) (next .count) (next .generated-as) t
-    → Accepts p i (text (now .generated-as)) (now .count) (now .generated-as) t =
-    λ text a. subst (λ (n : ℕ). Accepts p i (text (now .generated-as)) n (now .generated-as) t) counts
-    (subst (λ (w : ℕ). Accepts p i (text w) (next .count) w t) one a) in
     record {
       written = now .written;
       algorithm = now .algorithm;
@@ -221,8 +284,10 @@ day-then p i phrase buffer s t same now next =
       algorithm-own = now .algorithm-own;
       count-less = now .count-less;
       generated-is = now .generated-is;
-      hex-accepted = accepts hexOf (next .hex-accepted);
-      words-accepted = accepts wordsOf (next .words-accepted);
+      says-accepted = subst (λ (n : ℕ). (text : List ℕ) → SaysLogin (now .generated-as) text → Accepts p i text n (now .generated-as) t) counts
+          (subst (λ (w : ℕ). (text : List ℕ) → SaysLogin w text → Accepts p i text (next .count) w t) one (next .says-accepted));
+      each-accepted = subst (λ (n : ℕ). Each (λ (text : List ℕ). Accepts p i text n (now .generated-as) t) (repliesOf (now .generated-as))) counts
+          (subst (λ (w : ℕ). Each (λ (text : List ℕ). Accepts p i text (next .count) w t) (repliesOf w)) one (next .each-accepted));
     }
 
 pub day-later : (p i : ℕ) (phrase buffer : List ℕ) (s : State) → Made s → HasTurn p i s → 1 < accountOf i s .count → phraseChecked phrase ≡ Checked.Good
@@ -260,27 +325,13 @@ kept-passwords algorithm phrase seed zero = ap (λ (t : List ℕ). hash algorith
 kept-passwords algorithm phrase seed (suc n) = ap (λ (w : ℕ). hash algorithm (bytesOf w)) (kept-passwords algorithm phrase seed n)
 
 -- Where the new password is what the pass-phrase gives with the new values, the account has what the pass-phrase gives.
-pub renewed-stored : (p n number count : ℕ) (seed new text : List ℕ) (s : State) → Steps.renew p number count seed new text s .answer ≡ Replied.Accepted n
-    → (phrase : List ℕ) → numberOf new ≡ password (algorithmIn (numbered number)) phrase seed count
-    → (let room = waitedFor p s (Steps.renew p number count seed new text s .state) in
-    (1 < room .count) × (room .password ≡ passwordOf phrase room (room .count)))
-renewed-stored p n number count seed new text s e phrase given =
-    let renewed = taken-renews p n number count seed new text s e .1 in (
+pub renewed-stored : (p n number count : ℕ) (seed : List ℕ) (new present : Reading) (s state : State)
+    → Taken p n (Presented.Renewal number count seed new present) s state
+    → (phrase : List ℕ) → passwordIn new ≡ password (algorithmIn (numbered number)) phrase seed count
+    → (let room = waitedFor p s state in (1 < room .count) × (room .password ≡ passwordOf phrase room (room .count)))
+renewed-stored p n number count seed new present s state r phrase given =
+    let renewed = taken-renews p n number count seed new present s state r .2 in (
       renewed .unused,
       subst (λ (room : Room). room .password ≡ passwordOf phrase room (room .count)) (sym (renewed .becomes))
           (given ∙ kept-passwords (algorithmIn (numbered number)) phrase seed count),
     )
-
--- ---- by the account's id
-
-pub reply-by-id : (p i n : ℕ) (text : List ℕ) (s : State) → Made s → HasTurn p i s → Steps.reply p text s .answer ≡ Replied.Accepted n
-    → waitedFor p s (Steps.reply p text s .state) ≡ accountOf i (Steps.reply p text s .state)
-reply-by-id p i n text s m t e =
-    taken-by-id p i n (readingOf text) (lowered (ownAccount p s)) s (Steps.reply p text s .state) m t (reply-taken p n text s e) refl
-
-pub renew-by-id : (p i n number count : ℕ) (seed new text : List ℕ) (s : State) → Made s → HasTurn p i s
-    → Steps.renew p number count seed new text s .answer ≡ Replied.Accepted n
-    → waitedFor p s (Steps.renew p number count seed new text s .state) ≡ accountOf i (Steps.renew p number count seed new text s .state)
-renew-by-id p i n number count seed new text s m t e =
-    taken-by-id p i n (readingOf text) (λ w. renewedRoom (ownAccount p s) number count seed new) s (Steps.renew p number count seed new text s .state) m t
-    (taken-renewal p n number count seed new text s e) refl

@@ -2,11 +2,11 @@
 use Prim.Native.Nat.{ℕ, _/_, _%_}
 use mathlib.Core.Path.{_≡_}
 use mathlib.Core.Logic.{_↔_}
-use mathlib.Core.Bool.{Bool, true, false, not, _&&_, _||_}
+use mathlib.Core.Bool.{Bool, true, false, cond, not, _&&_, _||_}
 use mathlib.Core.List.{List, [], _∷_, _++_, map}
 use lib.Dec.{eqb, leb, ltb}
 use lib.ListN.{length, take, drop}
-use Rattle.refusal.specs.declared.Reading.{Reading}
+use Rattle.refusal.specs.Numbers.{passwordIn}
 use Rattle.refusal.specs.Each.{Each}
 use Rattle.text.specs.Kinds.{lowerOf}
 use Rattle.text.specs.Tests.{every, same}
@@ -20,6 +20,11 @@ use Rattle.dictionary.specs.Dictionary.{placeOf}
 use Rattle.sixwords.specs.Places.{pairSum, joined}
 use Rattle.hex.specs.Hex.{sixteenDigits}
 use Rattle.reply.specs.Reply.{sixWords, upperText, placeIn, readingOf}
+use Rattle.extended.specs.declared.reply_types.ReplyType.{ReplyType}
+use Rattle.extended.specs.declared.parameters.Parameters.{Parameters}
+use Rattle.extended.specs.ReplyTypes.{typed, typeNumbered, typeIn, isInit, isHex}
+use Rattle.extended.specs.Parameters.{parametersOf}
+use Rattle.extended.specs.ReplyTexts.{partAt, presentAt, parametersAt, newAt, colons, colonsOf, seedStart, seedPart}
 use Rattle.challenge.specs.Challenges.{opening, tokenAt, endOf, countAt, seedAt, terminated, challengeOf}
 use Rattle.cards.specs.CardChecks.{countOf}
 use Rattle.cards.specs.Cards.{cardOf}
@@ -29,6 +34,7 @@ use Rattle.accounts.specs.Accounts.{isOneOf}
 use Rattle.table.specs.Table.{State, isThere, accountOf, portOf, waits, ownAccount, hasTurn}
 use Rattle.table.specs.Steps.{challengeFor}
 use Rattle.reached.specs.Calls.{Call}
+use Rattle.reached.specs.Presented.{presentIn, inReply}
 use Rattle.reached.specs.Equal.{accountsIn}
 
 -- ---- what it is that an answer goes by its rows
@@ -104,14 +110,18 @@ wordsKnown text = every isKnown (placesFound text)
 abbrev pub wordsRight : List ℕ → Bool
 wordsRight text = sumRight (map placeIn (placesFound text))
 
--- 30 to 33: "reply over 128 bytes"; "a word not in the dictionary"; "words known, pair sum wrong"; "neither six words nor sixteen
--- digits"
+-- 31 and 32, of six words: "a word not in the dictionary"; "words known, pair sum wrong"
+abbrev pub wordRows : List ℕ → List Row
+wordRows text =
+    (31, sixWords (tokens text) && not (wordsKnown text)) ∷
+    (32, sixWords (tokens text) && wordsKnown text && not (wordsRight text)) ∷ []
+
+-- 30 to 33, of a plain reply: "reply over 128 bytes"; 31 and 32; "neither six words nor sixteen digits"
 abbrev pub replyRows : List ℕ → List Row
 replyRows text =
-    (30, ltb 128 (length text)) ∷
-    (31, sixWords (tokens text) && not (wordsKnown text)) ∷
-    (32, sixWords (tokens text) && wordsKnown text && not (wordsRight text)) ∷
-    (33, not (sixWords (tokens text)) && not (sixteenDigits (unspaced text))) ∷ []
+    (30, ltb 128 (length text)) ∷ []
+    ++ wordRows text
+    ++ (33, not (sixWords (tokens text)) && not (sixteenDigits (unspaced text))) ∷ []
 
 -- ---- the card
 
@@ -135,19 +145,82 @@ refusedWith n = codes "refused " ++ decimalOf n ++ 10 ∷ []
 abbrev pub cardAsked : List ℕ → List ℕ
 cardAsked input = cardOf (firstLine input) (keptLine (pastLine input)) (linesAsked (firstLine (pastLine (pastLine input))))
 
--- ---- the table's calls, in tables that calls make
+-- ---- an account's new values
 
 -- 51: "count not 2 to 9,999"
 abbrev pub isOutside : ℕ → Bool
 isOutside count = not (leb 2 count && leb count 9999)
 
--- An account's new values: 51, 21 "after 51", 23, 24, and 63, by R-5 "equal to a remembered seed", "case folded".
-abbrev pub valuesRows : ℕ → ℕ → List ℕ → Room → List Row
-valuesRows number count seed present =
+-- At enrolment: 51, 21 "after 51", 23, 24.
+abbrev pub newRows : ℕ → ℕ → List ℕ → List Row
+newRows number count seed =
     (51, isOutside count) ∷ []
     ++ algorithmRows number
     ++ seedRows seed
+
+-- At renewal these and 63, by R-5 "equal to a remembered seed", "case folded".
+abbrev pub valuesRows : ℕ → ℕ → List ℕ → Room → List Row
+valuesRows number count seed present =
+    newRows number count seed
     ++ (63, isOneOf (map lowerOf seed) (remembered present)) ∷ []
+
+-- ---- R-6: the text of a reply, plain or extended
+
+-- "A text with a colon is an extended reply ..; others are plain."
+abbrev pub isPlain : List ℕ → Bool
+isPlain text = eqb (colons text) 0
+
+-- One of the four names.
+abbrev pub isType : List ℕ → Bool
+isType name = same name (codes "hex") || same name (codes "word") || same name (codes "init-hex") || same name (codes "init-word")
+
+-- An extended reply's type, where it is one of the four, and its parameters. The seed stands where they say.
+abbrev pub typeOf : List ℕ → ReplyType
+typeOf text = typeIn (typed (partAt text 0))
+
+abbrev pub valuesIn : List ℕ → Parameters
+valuesIn text = parametersOf (partAt text (parametersAt text))
+
+abbrev pub newSeed : List ℕ → List ℕ
+newSeed text = seedPart text (seedStart (parametersAt text) (valuesIn text)) (valuesIn text .len)
+
+-- It is extended, and of an `init` type.
+abbrev pub isRenewal : List ℕ → Bool
+isRenewal text = not (isPlain text) && isInit (typeOf text)
+
+-- "an extended reply, of at most 256 bytes", 30; "34 unknown type, 35 a missing or extra part, both after 30": there is a colon between two parts.
+abbrev pub layoutRows : List ℕ → List Row
+layoutRows text =
+    (30, not (isPlain text) && ltb 256 (length text)) ∷
+    (34, not (isPlain text) && not (isType (partAt text 0))) ∷
+    (35, not (isPlain text) && not (eqb (colons text) (colonsOf (typeOf text)))) ∷ []
+
+-- 31 to 33 of the part with a password: of `hex` types sixteen digits, of the others six words; "33 also where the text isn't of its type".
+abbrev pub partRows : ReplyType → List ℕ → List Row
+partRows kind part =
+    cond (isHex kind) ((33, not (sixteenDigits (unspaced part))) ∷ [])
+    (wordRows part ++ (33, not (sixWords (tokens part))) ∷ [])
+
+-- "then 31 to 33 for the new password and after it for the present one"; a plain reply's 30 to 33.
+abbrev pub passwordRows : List ℕ → List Row
+passwordRows text =
+    cond (isPlain text) (replyRows text)
+    (cond (isInit (typeOf text)) (partRows (typeOf text) (partAt text (newAt text))) [] ++ partRows (typeOf text) (partAt text (presentAt text)))
+
+-- All of these, with such rows for the parameters between them.
+abbrev pub saidRows : (ℕ → ℕ → List ℕ → List Row) → List ℕ → List Row
+saidRows rows text =
+    layoutRows text
+    ++ cond (isRenewal text) (rows (valuesIn text .algorithm) (valuesIn text .count) (newSeed text)) []
+    ++ passwordRows text
+
+-- The writer of extended replies: 34 for "a type that isn't one of the four", by number, "then for `init` types 51, 21, 23, 24".
+abbrev pub extendedRows : ℕ → ℕ → ℕ → List ℕ → List Row
+extendedRows type number count seed =
+    (34, not (eqb type 1 || eqb type 2 || eqb type 3 || eqb type 4)) ∷ []
+    ++ cond (isInit (typeIn (typeNumbered type))) (newRows number count seed) []
+
+-- ---- the table's calls, in tables that calls make
 
 -- Challenge, Reply and Renew: "55, 59, 60, 58". 55: "port over 3"; 58: "account used up: stored count 1".
 abbrev pub turnRows : ℕ → State → List Row
@@ -157,32 +230,25 @@ turnRows port s =
     (60, not (hasTurn port s)) ∷
     (58, eqb (ownAccount port s .count) 1) ∷ []
 
--- The password that a text was read as.
-abbrev pub said : Reading → ℕ
-said (Reading.Password password) = password
-said (Reading.Refused why) = 0
-
 -- "Hash the password once", by the account's algorithm: it does not equal the stored one.
-abbrev pub isWrong : ℕ → List ℕ → State → Bool
-isWrong port text s = not (eqb (hash (ownAccount port s .algorithm) (bytesOf (said (readingOf text)))) (ownAccount port s .password))
+abbrev pub isWrong : ℕ → ℕ → State → Bool
+isWrong port password s = not (eqb (hash (ownAccount port s .algorithm) (bytesOf password)) (ownAccount port s .password))
 
 -- Two wrong replies stand in the port's run, so that one more is the third.
 abbrev pub isThird : ℕ → State → Bool
 isThird port s = eqb (portOf port s .wrong) 2
 
 -- 61 and 62: "wrong reply, third wrong in a row"
-abbrev pub wrongRows : ℕ → List ℕ → State → List Row
-wrongRows port text s =
-    (61, isWrong port text s && not (isThird port s)) ∷
-    (62, isWrong port text s && isThird port s) ∷ []
+abbrev pub wrongRows : ℕ → ℕ → State → List Row
+wrongRows port password s =
+    (61, isWrong port password s && not (isThird port s)) ∷
+    (62, isWrong port password s && isThird port s) ∷ []
 
 -- "Checks run in the order given."
 abbrev pub conditionsOf : Call → State → List Row
 conditionsOf (Call.Enrol id number count seed password) s =
-    (50, eqb id 0) ∷
-    (51, isOutside count) ∷ []
-    ++ algorithmRows number
-    ++ seedRows seed
+    (50, eqb id 0) ∷ []
+    ++ newRows number count seed
     ++ (52, isThere id s) ∷
     (53, eqb (accountsIn (s .rooms)) 32) ∷ []
 conditionsOf (Call.Remove id) s =
@@ -201,11 +267,11 @@ conditionsOf (Call.Challenge port room) s =
     ++ roomRows room (challengeFor port s)
 conditionsOf (Call.Reply port text) s =
     turnRows port s
-    ++ replyRows text
-    ++ wrongRows port text s
+    ++ saidRows (λ number count seed. valuesRows number count seed (ownAccount port s)) text
+    ++ wrongRows port (presentIn (inReply text)) s
 conditionsOf (Call.Renew port number count seed password text) s =
     turnRows port s
     ++ valuesRows number count seed (ownAccount port s)
     ++ replyRows text
-    ++ wrongRows port text s
+    ++ wrongRows port (passwordIn (readingOf text)) s
 conditionsOf Call.Tick s = []

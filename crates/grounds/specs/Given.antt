@@ -26,6 +26,8 @@ use Rattle.text.specs.Tests.{same}
 use Rattle.hex.specs.Hex.{hexOf}
 use Rattle.hex.specs.Hex.{sixteenDigits, hexReading}
 use Rattle.reply.specs.Reply.{isWord, sixWords, marksOf, foundReading, readingOf}
+use Rattle.extended.specs.ReplyTypes.{typeName}
+use Rattle.extended.specs.ReplyTexts.{partAt, colons, layoutChecked, extendedOf, replyTextOf}
 use Rattle.cards.specs.CardChecks.{cardChecked}
 use Rattle.cards.specs.Cards.{cardWritten}
 use Rattle.line.specs.Line.{some, others, turnWithout, left}
@@ -43,11 +45,13 @@ use Rattle.table.specs.Steps.{
   turnChecked,
   challenge,
   offered,
-  replyRead,
-  reply,
+  loginRead,
   renewChecked,
   renewRead,
+  renewal,
   renew,
+  replyBy,
+  reply,
 }
 use Rattle.reached.specs.Calls.{Call, run}
 use Rattle.grounds.specs.Listed.{listed, callNumber, Given}
@@ -87,7 +91,7 @@ challenge-given = (
   ),
 )
 
--- 30 to 33: the reply's reader
+-- 30 to 33: the plain reply's reader
 reply-given : Each Given (30 ∷ 31 ∷ 32 ∷ 33 ∷ [])
 unfolding readingOf sixWords isWord marksOf foundReading sixteenDigits hexReading every parted unspaced Digits.numberAfter codes wordsIn
     lines words flatten same Dictionary.standsFrom Dictionary.placeOf pairs pairSum Places.joined allPlaces numberOf
@@ -125,14 +129,23 @@ right = Call.Reply 0 (hexOf 0)
 abbrev pub wrong : Call
 wrong = Call.Reply 0 (hexOf 1)
 
+-- 34 and 35: a reply in the turn, of another type and without its parts
+extended-given : Each Given (34 ∷ 35 ∷ [])
+unfolding callNumber codes plain same run enrol enrolChecked joinChecked Steps.joins join turnChecked replyBy reply replyTextOf extendedOf layoutChecked
+    partAt colons typeName runOf some placeOf inLines standsAt every
+extended-given = (
+  Given.call (enrolled ∷ joins ∷ []) (Call.Reply 0 (codes "HEX:")) refl,
+  (Given.call (enrolled ∷ joins ∷ []) (Call.Reply 0 (codes "init-hex:")) refl, tt),
+)
+
 abbrev pub thirtyTwo : List Call
 thirtyTwo = map (λ id. Call.Enrol id 1 2 (codes "a") eight) (upTo 32 (λ k. suc k))
 
 -- 50 to 63: the table
 table-given : Each Given (50 ∷ 51 ∷ 52 ∷ 53 ∷ 54 ∷ 55 ∷ 56 ∷ 57 ∷ 58 ∷ 59 ∷ 60 ∷ 61 ∷ 62 ∷ 63 ∷ [])
 unfolding callNumber codes plain same isOneOf run enrol enrolChecked remove joinChecked Steps.joins join leaveChecked leave turnChecked challenge
-    offered replyRead reply renewChecked renewRead renew some others turnWithout left placeOf inLines standsAt readingOf sixWords isWord
-    sixteenDigits hexReading every parted unspaced digitsOf Digits.numberAfter hash fold numberAfter md5 registers absorbed
+    offered loginRead replyBy reply renewChecked renewRead renewal renew replyTextOf colons some others turnWithout left placeOf inLines standsAt
+    readingOf sixWords isWord sixteenDigits hexReading every parted unspaced digitsOf Digits.numberAfter hash fold numberAfter md5 registers absorbed
     compressed rounds performed operation round1 round2 round3 round4 blockAt paddedWord paddedByte upTo
 table-given = (
   Given.call [] (Call.Enrol 0 1 2 (codes "a") eight) refl,
@@ -185,7 +198,7 @@ abbrev twenties : List ℕ
 twenties = 20 ∷ 21 ∷ 22 ∷ 23 ∷ 24 ∷ 25 ∷ []
 
 abbrev pub thirties : List ℕ
-thirties = 30 ∷ 31 ∷ 32 ∷ 33 ∷ []
+thirties = 30 ∷ 31 ∷ 32 ∷ 33 ∷ 34 ∷ 35 ∷ []
 
 abbrev fifties : List ℕ
 fifties = 50 ∷ 51 ∷ 52 ∷ 53 ∷ 54 ∷ 55 ∷ 56 ∷ 57 ∷ 58 ∷ 59 ∷ 60 ∷ 61 ∷ 62 ∷ 63 ∷ []
@@ -194,5 +207,5 @@ pub numbers-given : Each Given listed
 numbers-given =
     each-append Given (10 ∷ 11 ∷ 12 ∷ 13 ∷ []) (twenties ++ (thirties ++ (40 ∷ fifties ++ 70 ∷ []))) generator-given
     (each-append Given twenties (thirties ++ (40 ∷ fifties ++ 70 ∷ [])) challenge-given
-    (each-append Given thirties (40 ∷ fifties ++ 70 ∷ []) reply-given
+    (each-append Given thirties (40 ∷ fifties ++ 70 ∷ []) (each-append Given (30 ∷ 31 ∷ 32 ∷ 33 ∷ []) (34 ∷ 35 ∷ []) reply-given extended-given)
     (writer-given .0, each-append Given fifties (70 ∷ []) table-given card-given)))

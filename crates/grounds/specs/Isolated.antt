@@ -12,15 +12,13 @@ use lib.Seq.{getD-set-same, getD-set-other}
 use Rattle.text.specs.Tests.{either, cases, second-fails}
 use Rattle.refusal.specs.declared.Refusal.{Refusal}
 use Rattle.refusal.specs.declared.Checked.{Checked}
-use Rattle.refusal.specs.declared.Reading.{Reading}
 use Rattle.refusal.specs.Checks.{unless}
 use Rattle.refusal.specs.Laws.{must-good}
 use Rattle.password.specs.Password.{hash, bytesOf}
-use Rattle.reply.specs.Reply.{readingOf}
 use Rattle.line.specs.Line as Line
 use Rattle.line.specs.Line.{empty, standsIn, turnJoined}
 use Rattle.accounts.specs.Rooms.{Room}
-use Rattle.accounts.specs.Accounts.{newRoom, renewedRoom, lowered}
+use Rattle.accounts.specs.Accounts.{newRoom}
 use Rattle.table.specs.Table.{
   State,
   Held,
@@ -55,18 +53,15 @@ use Rattle.table.specs.Steps.{
   join,
   leaveChecked,
   leave,
-  turnChecked,
   offered,
-  read,
-  reply,
-  renewChecked,
-  renew,
   tick,
 }
 use Rattle.table.specs.StepLaws.{enrol-passed}
 use Rattle.reached.specs.Calls.{Call, Answer, after, answer, repliedAnswer}
 use Rattle.reached.specs.InTurn.{madeBy, joinsFor, elsewhere}
-use Rattle.reached.specs.Day.{Presents, WrongReply}
+use Rattle.reached.specs.Presented.{Presented, Presents, tableChecked, textChecked, presentIn, nextOf, presents}
+use Rattle.reached.specs.PresentedLaws.{next-id, call-presents}
+use Rattle.reached.specs.Day.{WrongReply}
 use Rattle.reached.specs.Made.{Made}
 use Rattle.reached.specs.RoomsFound.{apart-once}
 use Rattle.reached.specs.RoomsChanged.{there-parts}
@@ -302,36 +297,34 @@ pub wrong-held : (why : Refusal) (c : Call) (s : State) (w : WrongReply why c s)
     → heldOf i (after c s) ≡ record { account = accountOf i s; line = Line.left (w .port) (lineOf i s) }
 wrong-held why c s w i = ap (heldOf i) (w .changed) ∙ left-held i s (w .port)
 
--- An accepted reply or renewal: the port leaves.
-module _ (port n : ℕ) (s : State) (next : ℕ → Room) (same : (w : ℕ) → next w .id ≡ ownAccount port s .id) (i : ℕ) where
-  -- The port is out of the account's line, if it was in it.
-  Left : State → Type 0
-  Left s′ = lineOf i s′ ≡ Line.left port (lineOf i s)
-
+-- An accepted reply or renewal: the port is out of the account's line, if it was in it.
+module _ (port n : ℕ) (s : State) (i : ℕ) where
   -- A password is offered and taken.
-  offered-left : (w : ℕ) → repliedAnswer (offered port w (next w) s .answer) ≡ Answer.Count n → Left (offered port w (next w) s .state)
-  unfolding offered Left
-  offered-left w = by (eqb (hash (ownAccount port s .algorithm) (bytesOf w)) (ownAccount port s .password))
+  offered-left : (w : ℕ) (next : Room) → next .id ≡ ownAccount port s .id → repliedAnswer (offered port w next s .answer) ≡ Answer.Count n
+      → lineOf i (offered port w next s .state) ≡ Line.left port (lineOf i s)
+  unfolding offered
+  offered-left w next same = by (eqb (hash (ownAccount port s .algorithm) (bytesOf w)) (ownAccount port s .password))
     where
-      by : (t : Bool) → repliedAnswer (cond t (Steps.accepted port (next w) s) (Steps.rejected port s) .answer) ≡ Answer.Count n
-          → lineOf i (cond t (Steps.accepted port (next w) s) (Steps.rejected port s) .state) ≡ Line.left port (lineOf i s)
-      by true e = accepted-line i s port (next w) (same w)
+      by : (t : Bool) → repliedAnswer (cond t (Steps.accepted port next s) (Steps.rejected port s) .answer) ≡ Answer.Count n
+          → lineOf i (cond t (Steps.accepted port next s) (Steps.rejected port s) .state) ≡ Line.left port (lineOf i s)
+      by true e = accepted-line i s port next same
       by false e = let z : _≡_ {A = ℕ} 0 1 = cc in absurd (omega arith)
 
-  -- It is what a text says, behind checks.
-  read-left : (k : Checked) (r : Reading)
-      → repliedAnswer (unless (replyRefused s) k (read s r (λ w. offered port w (next w) s)) .answer) ≡ Answer.Count n
-      → Left (unless (replyRefused s) k (read s r (λ w. offered port w (next w) s)) .state)
-  read-left (Checked.Refused why) r e = let z : _≡_ {A = ℕ} 0 1 = cc in absurd (omega arith)
-  read-left Checked.Good (Reading.Refused why) e = let z : _≡_ {A = ℕ} 0 1 = cc in absurd (omega arith)
-  read-left Checked.Good (Reading.Password w) e = offered-left w e
+  -- It is what was presented, behind checks.
+  presents-left : (what : Presented) → repliedAnswer (presents port what s .answer) ≡ Answer.Count n
+      → lineOf i (presents port what s .state) ≡ Line.left port (lineOf i s)
+  unfolding presents
+  presents-left what = by (unless Checked.Refused (tableChecked port what s) (textChecked what))
+    where
+      by : (k : Checked)
+          → repliedAnswer (unless (replyRefused s) k (offered port (presentIn what) (nextOf what (ownAccount port s)) s) .answer) ≡ Answer.Count n
+          → lineOf i (unless (replyRefused s) k (offered port (presentIn what) (nextOf what (ownAccount port s)) s) .state) ≡ Line.left port (lineOf i s)
+      by (Checked.Refused why) e = let z : _≡_ {A = ℕ} 0 1 = cc in absurd (omega arith)
+      by Checked.Good e = offered-left (presentIn what) (nextOf what (ownAccount port s)) (next-id what (ownAccount port s)) e
 
 -- Of Reply and Renew.
-pub accepted-left : (port n : ℕ) (c : Call) (s : State) → Presents port c → answer c s ≡ Answer.Count n → (i : ℕ)
+pub accepted-left : (port n : ℕ) (what : Presented) (c : Call) (s : State) → Presents port what c → answer c s ≡ Answer.Count n → (i : ℕ)
     → lineOf i (after c s) ≡ Line.left port (lineOf i s)
-unfolding Left reply Steps.replyRead renew Steps.renewRead
-accepted-left port n c s (Presents.by-reply text) e i =
-    read-left port n s (lowered (ownAccount port s)) (λ w. refl) i (turnChecked port s) (readingOf text) e
-accepted-left port n c s (Presents.by-renew number count seed new text) e i =
-    read-left port n s (λ w. renewedRoom (ownAccount port s) number count seed new) (λ w. refl) i (renewChecked port number count seed s)
-    (readingOf text) e
+accepted-left port n what c s p e i =
+    let did = call-presents port what c s p in
+    ap (lineOf i) (did .1) ∙ presents-left port n s i what (sym (did .0) ∙ e)

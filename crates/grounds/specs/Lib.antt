@@ -13,8 +13,10 @@ pub mod TurnComes
 pub mod Keeps
 pub mod Owned
 pub mod Isolated
+pub mod PlainTexts
 pub mod Replies
 pub mod Answering
+pub mod ExtendedCalls
 pub mod Exactly
 pub mod Refusing
 pub mod RefusingCalls

@@ -25,10 +25,10 @@ abbrev pub isIn : ℕ → List ℕ → Bool
 isIn n [] = false
 isIn n (m ∷ ms) = eqb n m || isIn n ms
 
--- 01, 'Refusal numbers': the numbers of the table, from top to bottom.
+-- 01, 'Refusal numbers': the numbers of the table, from top to bottom, and R-6's 34 and 35.
 abbrev pub listed : List ℕ
 listed =
-    10 ∷ 11 ∷ 12 ∷ 13 ∷ 20 ∷ 21 ∷ 22 ∷ 23 ∷ 24 ∷ 25 ∷ 30 ∷ 31 ∷ 32 ∷ 33 ∷ 40 ∷ 50 ∷ 51 ∷ 52 ∷ 53 ∷ 54 ∷ 55 ∷ 56 ∷ 57 ∷ 58 ∷ 59 ∷ 60
+    10 ∷ 11 ∷ 12 ∷ 13 ∷ 20 ∷ 21 ∷ 22 ∷ 23 ∷ 24 ∷ 25 ∷ 30 ∷ 31 ∷ 32 ∷ 33 ∷ 34 ∷ 35 ∷ 40 ∷ 50 ∷ 51 ∷ 52 ∷ 53 ∷ 54 ∷ 55 ∷ 56 ∷ 57 ∷ 58 ∷ 59 ∷ 60
     ∷ 61 ∷ 62 ∷ 63 ∷ 70 ∷ []
 
 -- ---- the number of an answer, 0 where it is no refusal
@@ -46,7 +46,7 @@ challengeNumber challenge = challengeNumbers challenge .0 .0
 unfoldable pub callNumber : List Call → Call → ℕ
 callNumber before c = numbers (answer c (run before fresh)) .0 .0
 
--- The number n is the answer of some call: of the generator, the digest, the challenge reader, the reply's reader, the hex writer, the
+-- The number n is the answer of some call: of the generator, the digest, the challenge reader, the plain reply's reader, the hex writer, the
 -- card writer, or the table.
 pub data Given (n : ℕ) : Type 0 where
   generator : (number : ℕ) (phrase seed : List ℕ) (count : ℕ) → readNumber (generated number phrase seed count) ≡ n → Given n

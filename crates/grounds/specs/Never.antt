@@ -16,10 +16,11 @@ use Rattle.text.specs.Tests.{both}
 use Rattle.password.specs.declared.algorithm.Named.{Named}
 use Rattle.password.specs.Algorithm.{numbered, algorithmChecked}
 use Rattle.password.specs.PhraseAndSeed.{plain, seedChecked}
-use Rattle.accounts.specs.Rooms.{remembered}
-use Rattle.accounts.specs.Accounts.{isOneOf}
+use Rattle.accounts.specs.Rooms.{Room, remembered}
+use Rattle.accounts.specs.Accounts.{isOneOf, valuesChecked}
 use Rattle.table.specs.Table.{State, waits, ownAccount, hasTurn}
-use Rattle.table.specs.Steps.{turnChecked, renewChecked}
+use Rattle.table.specs.Steps.{turnChecked}
+use Rattle.reached.specs.Presented.{Presented, newValuesChecked, tableChecked}
 use Rattle.grounds.specs.Listed.{isIn}
 
 -- A check: a test with its refusal, or that of an algorithm or of a seed.
@@ -49,10 +50,10 @@ turnTests port s =
     test (leb port 3) Refusal.PortUnknown ∷ test (waits port s) Refusal.PortNotInLine ∷ test (hasTurn port s) Refusal.PortNotInFront
     ∷ test (not (eqb (ownAccount port s .id) 0)) Refusal.AccountMissing ∷ test (ltb 1 (ownAccount port s .count)) Refusal.AccountUsedUp ∷ []
 
-abbrev pub valuesTests : ℕ → ℕ → ℕ → List ℕ → State → List Test
-valuesTests port number count seed s =
+abbrev pub valuesTests : ℕ → ℕ → List ℕ → Room → List Test
+valuesTests number count seed old =
     test (leb 2 count && leb count 9999) Refusal.CountOutside ∷ ofAlgorithm (numbered number) ∷ ofSeed seed
-    ∷ test (not (isOneOf (map lowerOf seed) (remembered (ownAccount port s)))) Refusal.SeedSame ∷ []
+    ∷ test (not (isOneOf (map lowerOf seed) (remembered old))) Refusal.SeedSame ∷ []
 
 module _ (numbers : List ℕ) (why : Refusal) (own : isIn (listingOf why .0) numbers ≡ true) where
   abbrev pub Never : Checked → Type 0
@@ -105,9 +106,15 @@ module _ (numbers : List ℕ) (why : Refusal) (own : isIn (listingOf why .0) num
   unfolding turnChecked
   turn-never port s h = rows-never (turnTests port s) h
 
-  pub renew-never : (port number count : ℕ) (seed : List ℕ) (s : State) → others numbers (turnTests port s) ≡ true
-      → others numbers (valuesTests port number count seed s) ≡ true → Never (renewChecked port number count seed s)
-  unfolding renewChecked
-  renew-never port number count seed s h k =
-      then-never (turnChecked port s) (inOrder (map checkOf (valuesTests port number count seed s))) (turn-never port s h)
-      (rows-never (valuesTests port number count seed s) k)
+  values-never : (what : Presented) (old : Room) → ((number count : ℕ) (seed : List ℕ) → others numbers (valuesTests number count seed old) ≡ true)
+      → Never (newValuesChecked what old)
+  unfolding valuesChecked
+  values-never (Presented.Login present) old k = good-never
+  values-never (Presented.Renewal number count seed new present) old k = rows-never (valuesTests number count seed old) (k number count seed)
+  values-never (Presented.Refused w) old k = good-never
+
+  pub table-never : (port : ℕ) (what : Presented) (s : State) → others numbers (turnTests port s) ≡ true
+      → ((number count : ℕ) (seed : List ℕ) → others numbers (valuesTests number count seed (ownAccount port s)) ≡ true)
+      → Never (tableChecked port what s)
+  table-never port what s h k =
+      then-never (turnChecked port s) (newValuesChecked what (ownAccount port s)) (turn-never port s h) (values-never what (ownAccount port s) k)

@@ -18,6 +18,7 @@ use Rattle.table.specs.Steps as Steps
 use Rattle.table.specs.Steps.{challengeFor}
 use Rattle.challenge.specs.Challenges.{challengeText}
 use Rattle.reached.specs.Calls.{Call, after, run}
+use Rattle.reached.specs.Presented.{Presented, Presents, renews}
 use Rattle.reached.specs.InTurn.{quiet, keepsAlgorithm, hasTurnFor, HasTurn}
 use Rattle.reached.specs.SeedsHad.{keepsAccount}
 use Rattle.reached.specs.SeedLaws.{SeedStep}
@@ -119,20 +120,26 @@ call-steps-seeds s i h c q =
       did .1,
     )
 
--- The whole account, over a renewal by a port that hasn't the turn for it; on any table.
-pub other-renewal-keeps : (p i number count : ℕ) (seed new text : List ℕ) (s : State) → isThere i s ≡ true → hasTurnFor p i s ≡ false
-    → accountOf i (Steps.renew p number count seed new text s .state) ≡ accountOf i s
-other-renewal-keeps p i number count seed new text s h f =
-    account-after renewal s i h (λ (room : Room). room ≡ accountOf i s) refl (λ id n k e. eqb-false id i (k i refl) e)
-    (λ port next n t e k x. absurd (none port n t)) (outcome renewal s)
-  where
-    renewal : Call
-    renewal = Call.Renew p number count seed new text
+-- A call that presents something removes no account, and is quiet for every other port; it keeps the algorithm unless it is a renewal.
+presents-keeps : (p q i : ℕ) (what : Presented) (c : Call) → Presents p what c → (keepsAccount i c ≡ true) × (quiet q i c ≡ not (eqb p q))
+presents-keeps p q i what c (Presents.by-reply text) = (refl, refl)
+presents-keeps p q i what c (Presents.by-renew number count seed new text) = (refl, refl)
 
-    none : (port : ℕ) → Outcome.NotBy renewal port → HasTurn port i s → ⊥
+pub login-keeps : (p i : ℕ) (what : Presented) (c : Call) → Presents p what c → renews what ≡ false → keepsAlgorithm i c ≡ true
+login-keeps p i what c (Presents.by-reply text) e = ap not e
+login-keeps p i what c (Presents.by-renew number count seed new text) e = absurd (true≢false e)
+
+-- The whole account, over a reply or a renewal by a port that hasn't the turn for it; on any table.
+pub other-port-keeps : (p i : ℕ) (what : Presented) (c : Call) (s : State) → Presents p what c → isThere i s ≡ true → hasTurnFor p i s ≡ false
+    → accountOf i (after c s) ≡ accountOf i s
+other-port-keeps p i what c s own h f =
+    account-after c s i h (λ (room : Room). room ≡ accountOf i s) refl (λ id n k e. eqb-false id i (k i (presents-keeps p p i what c own .0)) e)
+    (λ port next n t e k x. absurd (none port n t)) (outcome c s)
+  where
+    none : (port : ℕ) → Outcome.NotBy c port → HasTurn port i s → ⊥
     none port n t =
         cases (eqb p port) (λ e. true≢false (sym t ∙ ap (λ (q : ℕ). hasTurnFor q i s) (sym (eqb-true p port e)) ∙ f))
-        (λ e. eqb-false port port (n port i (ap not e)) refl)
+        (λ e. eqb-false port port (n port i (presents-keeps p port i what c own .1 ∙ ap not e)) refl)
 
 -- The whole account, over a quiet call in the turn.
 pub call-keeps : (p i : ℕ) (s : State) → Made s → HasTurn p i s → (c : Call) → quiet p i c ≡ true → accountOf i (after c s) ≡ accountOf i s
@@ -215,5 +222,5 @@ turn-keeps p i (c ∷ cs) s m t q u =
 pub challenge-kept : (p i : ℕ) (calls : List Call) (s : State) → Made s → HasTurn p i s → every (quiet p i) calls ≡ true → HasTurn p i (run calls s)
     → challengeFor p (run calls s) ≡ challengeFor p s
 challenge-kept p i calls s m t q u =
-    ap (λ (room : Room). challengeText (room .algorithm) (room .seed) (room .count - 1))
+    ap (λ (room : Room). challengeText true (room .algorithm) (room .seed) (room .count - 1))
     (turn-account p i (run calls s) (made-run calls s m) u ∙ turn-keeps p i calls s m t q u ∙ sym (turn-account p i s m t))

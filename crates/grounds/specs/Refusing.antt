@@ -1,7 +1,7 @@
 -- The refusals of the checks, the readers and the writers go by their rows.
 use Prim.Native.Nat.{ℕ, _+_, _*_, _/_}
 use native.Mathlib.Omega.{arith}
-use mathlib.Core.Path.{_≡_, refl, sym, ap, ap₂, _∙_}
+use mathlib.Core.Path.{_≡_, refl, sym, ap, ap₂, _∙_, subst}
 use mathlib.Core.Bool.{Bool, true, false, false≢true, cond, not, _&&_, _||_, Bool·not-not}
 use mathlib.Core.List.{List, [], _∷_, _++_, map}
 use borrow.Author.Tests.{lt-ltb, le-ltb, ltb-true, ltb-false, leb-true, leb-false}
@@ -11,7 +11,8 @@ use Rattle.refusal.specs.declared.Refusal.{Refusal}
 use Rattle.refusal.specs.declared.Checked.{Checked}
 use Rattle.refusal.specs.declared.Reading.{Reading}
 use Rattle.refusal.specs.declared.Written.{Written}
-use Rattle.refusal.specs.Checks.{unless}
+use Rattle.refusal.specs.Checks.{unless, readChecked}
+use Rattle.refusal.specs.Laws.{in-parts}
 use Rattle.text.specs.Kinds.{lowerOf}
 use Rattle.text.specs.Tests.{every, same, both, cases}
 use Rattle.text.specs.Scan.{tokens, unspaced}
@@ -30,8 +31,26 @@ use Rattle.dictionary.specs.Laws.{found-word}
 use Rattle.sixwords.specs.declared.Number.{Number}
 use Rattle.sixwords.specs.Places.{joined, allPlaces, numberOf as placesNumber}
 use Rattle.hex.specs.Hex.{sixteenDigits, hexReading}
-use Rattle.reply.specs.Reply.{isWord, sixWords, upperText, summed, marksOf, placeIn, foundReading, readingOf}
+use Rattle.reply.specs.Reply.{isWord, sixWords, upperText, summed, marksOf, placeIn, foundReading, sixReading, readingOf}
 use Rattle.reply.specs.Laws.{spelt-token, six-parts}
+use Rattle.extended.specs.declared.reply_types.ReplyType.{ReplyType}
+use Rattle.extended.specs.declared.reply_types.Typed.{Typed}
+use Rattle.extended.specs.declared.reply_texts.ReplyText.{ReplyText}
+use Rattle.extended.specs.ReplyTypes.{typeName, typeNumber, typeBy, typed, typeNumbered, typeChecked, typeIn, isInit, isHex}
+use Rattle.extended.specs.ReplyTexts.{
+  partAt,
+  presentAt,
+  newAt,
+  colons,
+  colonsOf,
+  passwordBy,
+  renewalIn,
+  typedIn,
+  layoutChecked,
+  extendedOf,
+  replyTextOf,
+}
+use Rattle.extended.specs.ReplyWriting.{renewalChecked, textByNumbers, extendedWritten}
 use Rattle.challenge.specs.declared.reading.Challenge.{Challenge}
 use Rattle.challenge.specs.Challenges.{
   opening,
@@ -48,9 +67,10 @@ use Rattle.challenge.specs.Challenges.{
 use Rattle.cards.specs.CardChecks.{challengeChecked, countOf, cardChecked}
 use Rattle.cards.specs.Cards.{cardOf, cardWritten}
 use Rattle.accounts.specs.Rooms.{Room, remembered}
-use Rattle.accounts.specs.Accounts.{isOneOf, valuesChecked}
+use Rattle.accounts.specs.Accounts.{countWithin, isOneOf, seedOther, newChecked, valuesChecked}
 use Rattle.refusal.specs.Numbers.{checkedNumbers}
 use Rattle.reached.specs.Calls.{Answer, writtenAnswer, numbers}
+use Rattle.reached.specs.Presented.{Presented, presentedIn, inReply, newValuesChecked, textChecked}
 use Rattle.grounds.specs.Listed.{readNumber, writtenNumber, challengeNumber}
 use Rattle.grounds.specs.Conditions.{
   Row,
@@ -58,6 +78,7 @@ use Rattle.grounds.specs.Conditions.{
   phraseRows,
   algorithmRows,
   seedRows,
+  newRows,
   valuesRows,
   roomRows,
   challengeRows,
@@ -66,7 +87,16 @@ use Rattle.grounds.specs.Conditions.{
   sumRight,
   wordsKnown,
   wordsRight,
+  wordRows,
   replyRows,
+  isPlain,
+  isType,
+  typeOf,
+  valuesIn,
+  newSeed,
+  partRows,
+  saidRows,
+  extendedRows,
   cardRows,
 }
 use Rattle.grounds.specs.Exactly.{
@@ -95,10 +125,6 @@ answer-exactly Answer.Done rows f = exactly Checked.Good rows f 0 refl
 answer-exactly (Answer.Count count) rows f = exactly Checked.Good rows f 0 refl
 answer-exactly (Answer.Wrote n) rows f = exactly Checked.Good rows f 0 refl
 answer-exactly (Answer.Refused why) rows f = exactly (Checked.Refused why) rows f (listedAs why) refl
-
-abbrev pub readChecked : Reading → Checked
-readChecked (Reading.Password password) = Checked.Good
-readChecked (Reading.Refused why) = Checked.Refused why
 
 abbrev pub writtenChecked : Written → Checked
 writtenChecked w = answerChecked (writtenAnswer w)
@@ -155,15 +181,22 @@ found-rows test rest = go (test Algorithm.Md5) (test Algorithm.Sha1)
 pub algorithm-rows : (number : ℕ) → Follows (algorithmChecked (numbered number)) (algorithmRows number)
 algorithm-rows number = found-rows (λ (algorithm : Algorithm). eqb number (algorithmNumber algorithm))
 
-pub values-rows : (number count : ℕ) (seed : List ℕ) (present : Room)
-    → Follows (valuesChecked number count seed present) (valuesRows number count seed present)
-unfolding valuesChecked
-values-rows number count seed present =
+new-rows : (number count : ℕ) (seed : List ℕ) → Follows (newChecked number count seed) (newRows number count seed)
+unfolding newChecked
+new-rows number count seed =
     then-test (leb 2 count && leb count 9999) _ Refusal.CountOutside _ _ refl
     (λ a. then-check (algorithmChecked (numbered number)) _ (algorithmRows number) _ (algorithm-rows number)
-    (λ b. then-check (seedChecked seed) _ (seedRows seed) _ (seed-rows seed)
+    (λ b. then-check (seedChecked seed) _ (seedRows seed) _ (seed-rows seed) (λ c. no-rows Checked.Good refl)))
+
+pub values-rows : (number count : ℕ) (seed : List ℕ) (present : Room)
+    → Follows (valuesChecked number count seed present) (valuesRows number count seed present)
+unfolding newChecked valuesChecked
+values-rows number count seed present =
+    subst (λ (c : Checked). Follows c (valuesRows number count seed present))
+    (in-parts (countWithin count ∷ algorithmChecked (numbered number) ∷ seedChecked seed ∷ []) (seedOther seed present ∷ []))
+    (then-check (newChecked number count seed) _ (newRows number count seed) _ (new-rows number count seed)
     (λ c. then-test (not (isOneOf (map lowerOf seed) (remembered present))) _ Refusal.SeedSame _ _
-    (Bool·not-not (isOneOf (map lowerOf seed) (remembered present))) (λ d. no-rows Checked.Good refl))))
+    (Bool·not-not (isOneOf (map lowerOf seed) (remembered present))) (λ d. no-rows Checked.Good refl)))
 
 pub values-exactly : (number count : ℕ) (seed : List ℕ) (present : Room)
     → Exactly (checkedNumbers (valuesChecked number count seed present) .0) (valuesRows number count seed present)
@@ -235,7 +268,7 @@ pub challenge-exactly : (text : List ℕ) → Exactly (challengeNumber (challeng
 challenge-exactly text = go (challengeOf text) (challenge-rows text)
   where
     go : (c : Challenge) → Follows (challengeChecked c) (challengeRows text) → Exactly (challengeNumber c) (challengeRows text)
-    go (Challenge.Read algorithm count start len used) f = exactly Checked.Good (challengeRows text) f 0 refl
+    go (Challenge.Read algorithm count start len used ext) f = exactly Checked.Good (challengeRows text) f 0 refl
     go (Challenge.Refused why) f = exactly (Checked.Refused why) (challengeRows text) f (listedAs why) refl
 
 -- "card lines not 1 to 99 or more than the count"
@@ -361,3 +394,138 @@ reply-rows text rest = go (ltb 128 (length text)) (sixWords (tokens text)) refl
 
 pub reply-exactly : (text : List ℕ) → Exactly (readNumber (readingOf text)) (replyRows text)
 reply-exactly text = read-exactly (readingOf text) (replyRows text) (reply-rows text)
+
+-- ---- R-6: the text of a reply, plain or extended
+
+six-rows : (text : List ℕ) → Follows (readChecked (sixReading text)) (wordRows text ++ (33, not (sixWords (tokens text))) ∷ [])
+unfolding Follows sixReading
+six-rows text rest = go (sixWords (tokens text)) refl
+  where
+    go : (b : Bool) → sixWords (tokens text) ≡ b
+        → unless listedAs (readChecked (cond b (foundReading (placesFound text)) (Reading.Refused Refusal.ReplyUnread))) rest
+        ≡ cond (b && not (wordsKnown text)) 31 (cond (b && wordsKnown text && not (wordsRight text)) 32 (cond (not b) 33 rest))
+    go true e = words-first text rest e
+    go false e = refl
+
+-- The part with a password, by its type.
+part-rows : (kind : ReplyType) (part : List ℕ) → Follows (readChecked (passwordBy kind part)) (partRows kind part)
+unfolding passwordBy
+part-rows kind part = go (isHex kind)
+  where
+    go : (b : Bool) → Follows (readChecked (cond b (hexReading (unspaced part)) (sixReading part)))
+        (cond b ((33, not (sixteenDigits (unspaced part))) ∷ []) (wordRows part ++ (33, not (sixWords (tokens part))) ∷ []))
+    go true = hex-rows (unspaced part)
+    go false = six-rows part
+
+pub part-exactly : (kind : ReplyType) (part : List ℕ) → Exactly (readNumber (passwordBy kind part)) (partRows kind part)
+part-exactly kind part = read-exactly (passwordBy kind part) (partRows kind part) (part-rows kind part)
+
+-- The type that a test finds: 34 where it finds none of the four.
+type-rows : (test : ReplyType → Bool) → Follows (typeChecked (typeBy test))
+    ((34, not (test ReplyType.Hex || test ReplyType.Word || test ReplyType.InitHex || test ReplyType.InitWord)) ∷ [])
+unfolding Follows
+type-rows test rest = go (test ReplyType.Hex) (test ReplyType.Word) (test ReplyType.InitHex) (test ReplyType.InitWord)
+  where
+    go : (a b c d : Bool)
+        → unless listedAs (typeChecked (cond a (Typed.Is ReplyType.Hex) (cond b (Typed.Is ReplyType.Word)
+        (cond c (Typed.Is ReplyType.InitHex) (cond d (Typed.Is ReplyType.InitWord) Typed.Unknown))))) rest
+        ≡ cond (not (a || b || c || d)) 34 rest
+    go true b c d = refl
+    go false true c d = refl
+    go false false true d = refl
+    go false false false true = refl
+    go false false false false = refl
+
+layout-rows : (text : List ℕ) → Follows (layoutChecked text)
+    ((30, ltb 256 (length text)) ∷ (34, not (isType (partAt text 0))) ∷ (35, not (eqb (colons text) (colonsOf (typeOf text)))) ∷ [])
+unfolding layoutChecked typeName
+layout-rows text =
+    then-test (leb (length text) 256) _ Refusal.ReplyLong _ _ (not-leb (length text) 256)
+    (λ a. then-check (typeChecked (typed (partAt text 0))) _ ((34, not (isType (partAt text 0))) ∷ []) _
+    (type-rows (λ (kind : ReplyType). same (partAt text 0) (typeName kind)))
+    (λ b. then-test (eqb (colons text) (colonsOf (typeOf text))) _ Refusal.PartsWrong _ _ refl (λ c. no-rows Checked.Good refl)))
+
+-- A check of what is presented, which looks at new values by rows of their own.
+module _ (check : Presented → Checked) (rows : ℕ → ℕ → List ℕ → List Row)
+    (login : (present : Reading) → check (Presented.Login present) ≡ readChecked present)
+    (refused : (why : Refusal) → check (Presented.Refused why) ≡ Checked.Refused why)
+    (renewal : (number count : ℕ) (seed : List ℕ) (new present : Reading) (a b : List Row) → Follows (readChecked new) a → Follows (readChecked present) b
+    → Follows (check (Presented.Renewal number count seed new present)) (rows number count seed ++ (a ++ b)))
+  where
+    typed-rows : (kind : ReplyType) (text : List ℕ)
+        → Follows (check (presentedIn text (typedIn kind text)))
+        (cond (isInit kind) (rows (valuesIn text .algorithm) (valuesIn text .count) (newSeed text)) []
+        ++ (cond (isInit kind) (partRows kind (partAt text (newAt text))) [] ++ partRows kind (partAt text (presentAt text))))
+    unfolding typedIn renewalIn
+    typed-rows kind text = go (isInit kind)
+      where
+        new : Reading
+        new = passwordBy kind (partAt text (newAt text))
+
+        present : Reading
+        present = passwordBy kind (partAt text (presentAt text))
+
+        go : (b : Bool) → Follows (check (presentedIn text (cond b (renewalIn kind text) (ReplyText.Login present))))
+            (cond b (rows (valuesIn text .algorithm) (valuesIn text .count) (newSeed text)) []
+            ++ (cond b (partRows kind (partAt text (newAt text))) [] ++ partRows kind (partAt text (presentAt text))))
+        go true = renewal _ _ _ new present _ _ (part-rows kind (partAt text (newAt text))) (part-rows kind (partAt text (presentAt text)))
+        go false =
+            subst (λ (c : Checked). Follows c (partRows kind (partAt text (presentAt text)))) (sym (login present))
+            (part-rows kind (partAt text (presentAt text)))
+
+    extended-rows : (text : List ℕ) → Follows (check (presentedIn text (extendedOf text)))
+        (((30, ltb 256 (length text)) ∷ (34, not (isType (partAt text 0))) ∷ (35, not (eqb (colons text) (colonsOf (typeOf text)))) ∷ [])
+        ++ (cond (isInit (typeOf text)) (rows (valuesIn text .algorithm) (valuesIn text .count) (newSeed text)) []
+        ++ (cond (isInit (typeOf text)) (partRows (typeOf text) (partAt text (newAt text))) [] ++ partRows (typeOf text) (partAt text (presentAt text)))))
+    unfolding extendedOf
+    extended-rows text =
+        behind (λ (r : ReplyText). check (presentedIn text r)) ReplyText.Refused refused (layoutChecked text) (typedIn (typeOf text) text) _ _
+        (layout-rows text) (λ e. typed-rows (typeOf text) text)
+
+    said-rows : (text : List ℕ) → Follows (check (inReply text)) (saidRows rows text)
+    unfolding Follows replyTextOf
+    said-rows text = go (isPlain text)
+      where
+        go : (b : Bool) → Follows (check (presentedIn text (cond b (ReplyText.Login (readingOf text)) (extendedOf text))))
+            ((30, not b && ltb 256 (length text)) ∷ (34, not b && not (isType (partAt text 0)))
+            ∷ (35, not b && not (eqb (colons text) (colonsOf (typeOf text))))
+            ∷ (cond (not b && isInit (typeOf text)) (rows (valuesIn text .algorithm) (valuesIn text .count) (newSeed text)) []
+            ++ cond b (replyRows text) (cond (isInit (typeOf text)) (partRows (typeOf text) (partAt text (newAt text))) []
+            ++ partRows (typeOf text) (partAt text (presentAt text)))))
+        go true = subst (λ (c : Checked). Follows c (replyRows text)) (sym (login (readingOf text))) (reply-rows text)
+        go false = extended-rows text
+
+-- The text by itself: of the parameters nothing is refused.
+pub text-rows : (text : List ℕ) → Follows (textChecked (inReply text)) (saidRows (λ number count seed. []) text)
+text-rows =
+    said-rows textChecked (λ number count seed. []) (λ present. refl) (λ why. refl)
+    (λ number count seed new present a b f g. then-check (readChecked new) (readChecked present) a b f (λ e. g))
+
+pub text-exactly : (text : List ℕ) → Exactly (checkedNumbers (textChecked (inReply text)) .0) (saidRows (λ number count seed. []) text)
+text-exactly text = checked-exactly (textChecked (inReply text)) (saidRows (λ number count seed. []) text) (text-rows text)
+
+-- And with the checks of new values for an account.
+pub presented-rows : (old : Room) (text : List ℕ)
+    → Follows (unless Checked.Refused (newValuesChecked (inReply text) old) (textChecked (inReply text)))
+    (saidRows (λ number count seed. valuesRows number count seed old) text)
+presented-rows old =
+    said-rows (λ what. unless Checked.Refused (newValuesChecked what old) (textChecked what)) (λ number count seed. valuesRows number count seed old)
+    (λ present. refl) (λ why. refl)
+    (λ number count seed new present a b f g. then-check (valuesChecked number count seed old) _ (valuesRows number count seed old) (a ++ b)
+    (values-rows number count seed old) (λ d. then-check (readChecked new) (readChecked present) a b f (λ e. g)))
+
+-- The writer.
+pub extended-writer-exactly : (type password number count : ℕ) (seed : List ℕ) (new room : ℕ)
+    → Exactly (writtenNumber (extendedWritten type password number count seed new room))
+    (extendedRows type number count seed ++ roomRows room (textByNumbers type password number count seed new))
+unfolding extendedWritten renewalChecked
+extended-writer-exactly type password number count seed new room =
+    let next = behind writtenChecked Written.Refused (λ why. refl) in
+    written-exactly (extendedWritten type password number count seed new room) _
+    (next (typeChecked (typeNumbered type)) _ _ _ (type-rows (λ (kind : ReplyType). eqb type (typeNumber kind)))
+    (λ a. next (renewalChecked (typeIn (typeNumbered type)) number count seed) _ _ _ (go (isInit (typeIn (typeNumbered type))))
+    (λ b. room-rows room (textByNumbers type password number count seed new))))
+  where
+    go : (b : Bool) → Follows (cond b (newChecked number count seed) Checked.Good) (cond b (newRows number count seed) [])
+    go true = new-rows number count seed
+    go false = no-rows Checked.Good refl

@@ -1,7 +1,7 @@
 -- The refusals of the table's calls go by their rows, in tables that calls make.
 use Prim.Native.Nat.{ℕ, _+_, _-_, _≤_}
 use native.Mathlib.Omega.{arith}
-use mathlib.Core.Path.{_≡_, refl, sym, ap, _∙_}
+use mathlib.Core.Path.{_≡_, refl, sym, ap, _∙_, subst}
 use mathlib.Core.Bool.{Bool, true, false, cond, not, _&&_, Bool·not-not}
 use mathlib.Core.List.{List, [], _++_}
 use borrow.Author.Tests.{eq-eqb, ne-eqb, ltb-true, ltb-false, le-ltb, le-leb, lt-leb}
@@ -9,7 +9,6 @@ use lib.Dec.{eqb, leb, ltb}
 use lib.ListN.{length}
 use Rattle.refusal.specs.declared.Refusal.{Refusal}
 use Rattle.refusal.specs.declared.Checked.{Checked}
-use Rattle.refusal.specs.declared.Reading.{Reading}
 use Rattle.refusal.specs.declared.Written.{Written}
 use Rattle.refusal.specs.Checks.{unless}
 use Rattle.refusal.specs.Each.{each-get}
@@ -19,27 +18,26 @@ use Rattle.password.specs.PhraseAndSeed.{seedChecked}
 use Rattle.password.specs.Algorithm.{numbered, algorithmChecked}
 use Rattle.password.specs.Password.{bytesOf, hash}
 use Rattle.challenge.specs.Challenges.{challengeWrittenBy}
-use Rattle.reply.specs.Reply.{readingOf}
 use Rattle.port.specs.declared.Port.{Port}
 use Rattle.accounts.specs.Rooms.{Room}
-use Rattle.accounts.specs.Accounts.{lowered, renewedRoom, valuesChecked}
+use Rattle.accounts.specs.Accounts.{valuesChecked}
 use Rattle.table.specs.declared.Replied.{Replied}
 use Rattle.table.specs.Table.{State, Held, freshPort, holds, isThere, accountOf, portOf, standsAt, waits, ownAccount, hasTurn}
 use Rattle.table.specs.TableChecks.{accountHeld}
 use Rattle.table.specs.Steps as Steps
-use Rattle.table.specs.Steps.{After, refused, replyRefused, enrolChecked, joinChecked, leaveChecked, turnChecked, renewChecked, challengeFor}
-use Rattle.table.specs.Steps.{offered, read}
+use Rattle.table.specs.Steps.{After, refused, replyRefused, enrolChecked, joinChecked, leaveChecked, turnChecked, challengeFor, offered}
 use Rattle.reached.specs.Calls.{Call, checkedAnswer, repliedAnswer, answer, numbers}
+use Rattle.reached.specs.Presented.{Presented, inReply, inRenew, newValuesChecked, tableChecked, textChecked, presentIn, nextOf, presents}
+use Rattle.reached.specs.PresentedLaws.{reply-presents, renew-presents}
 use Rattle.reached.specs.Made.{Made, PortGood}
 use Rattle.reached.specs.Equal.{times, accountsIn}
 use Rattle.reached.specs.RoomsFound.{holds-times, accounts-free}
 use Rattle.reached.specs.Outcome.{turn-good}
-use Rattle.grounds.specs.Conditions.{Row, Exactly, algorithmRows, seedRows, valuesRows, replyRows, turnRows, said, isThird, wrongRows, conditionsOf}
+use Rattle.grounds.specs.Conditions.{Row, Exactly, algorithmRows, seedRows, valuesRows, replyRows, turnRows, isThird, wrongRows, conditionsOf}
 use Rattle.grounds.specs.Exactly.{listedAs, Follows, no-rows, behind, behind-test, then-check, then-test}
 use Rattle.grounds.specs.Refusing.{
   answerChecked,
   answer-exactly,
-  readChecked,
   writtenChecked,
   algorithm-rows,
   seed-rows,
@@ -47,6 +45,7 @@ use Rattle.grounds.specs.Refusing.{
   not-leb,
   room-rows,
   reply-rows,
+  presented-rows,
 }
 use Rattle.grounds.specs.Keeps.{held-good, account-good, has-turn}
 use Rattle.grounds.specs.Answering.{seed-checked}
@@ -159,19 +158,10 @@ challenge-rows port room s m =
     let low : count ≤ 9999 = omega arith in
     rw (seed-checked seed (good .seeds .0), le-ltb 9999 count low) (room-rows room (challengeFor port s)))
 
--- What is done with the password that a text says.
-read-rows : (s : State) (r : Reading) (next : ℕ → After Replied) (rows more : List Row) → Follows (readChecked r) rows
-    → Follows (repliedChecked (next (said r))) more → Follows (repliedChecked (read s r next)) (rows ++ more)
-read-rows s (Reading.Password w) next rows more f g =
-    behind repliedChecked (replyRefused s) (λ why. refl) Checked.Good (next w) rows more f (λ e. g)
-read-rows s (Reading.Refused why) next rows more f g =
-    behind repliedChecked (replyRefused s) (λ w. refl) (Checked.Refused why) (next 0) rows more f (λ e. g)
-
-offered-rows : (port : ℕ) (text : List ℕ) (next : Room) (s : State) → Made s
-    → Follows (repliedChecked (offered port (said (readingOf text)) next s)) (wrongRows port text s)
+offered-rows : (port password : ℕ) (next : Room) (s : State) → Made s → Follows (repliedChecked (offered port password next s)) (wrongRows port password s)
 unfolding Follows offered
-offered-rows port text next s m rest =
-    go (eqb (hash (ownAccount port s .algorithm) (bytesOf (said (readingOf text)))) (ownAccount port s .password)) (isThird port s)
+offered-rows port password next s m rest =
+    go (eqb (hash (ownAccount port s .algorithm) (bytesOf password)) (ownAccount port s .password)) (isThird port s)
     (third (portOf port s) (each-get PortGood (s .ports) port freshPort (m .runs) (omega arith, omega arith)))
   where
     go : (t u : Bool) → leb 3 (portOf port s .wrong + 1) ≡ u
@@ -181,23 +171,38 @@ offered-rows port text next s m rest =
     go false true e = ap (λ (b : Bool). listedAs (cond b Refusal.ReplyWrongThird Refusal.ReplyWrong)) e
     go false false e = ap (λ (b : Bool). listedAs (cond b Refusal.ReplyWrongThird Refusal.ReplyWrong)) e
 
+-- What is presented: the turn's rows, those of new values and texts, and of a wrong reply.
+presents-rows : (port : ℕ) (what : Presented) (rows : List Row) (s : State) → Made s
+    → Follows (unless Checked.Refused (newValuesChecked what (ownAccount port s)) (textChecked what)) rows
+    → Follows (repliedChecked (presents port what s)) (turnRows port s ++ (rows ++ wrongRows port (presentIn what) s))
+unfolding presents
+presents-rows port what rows s m f =
+    behind repliedChecked (replyRefused s) (λ why. refl) (unless Checked.Refused (tableChecked port what s) (textChecked what)) _ (turnRows port s ++ rows) _
+    (subst (λ (c : Checked). Follows c (turnRows port s ++ rows)) (nested (turnChecked port s))
+    (then-check (turnChecked port s) _ (turnRows port s) rows (turn-rows port s m) (λ e. f)))
+    (λ e. offered-rows port (presentIn what) (nextOf what (ownAccount port s)) s m)
+  where
+    nested : (turn : Checked)
+        → unless Checked.Refused turn (unless Checked.Refused (newValuesChecked what (ownAccount port s)) (textChecked what))
+        ≡ unless Checked.Refused (unless Checked.Refused turn (newValuesChecked what (ownAccount port s))) (textChecked what)
+    nested Checked.Good = refl
+    nested (Checked.Refused why) = refl
+
 call-reply-rows : (port : ℕ) (text : List ℕ) (s : State) → Made s
     → Follows (repliedChecked (Steps.reply port text s)) (conditionsOf (Call.Reply port text) s)
-unfolding Steps.reply Steps.replyRead
 call-reply-rows port text s m =
-    behind repliedChecked (replyRefused s) (λ why. refl) (turnChecked port s) _ (turnRows port s) _ (turn-rows port s m)
-    (λ e. read-rows s (readingOf text) _ (replyRows text) _ (reply-rows text)
-    (offered-rows port text (lowered (ownAccount port s) (said (readingOf text))) s m))
+    subst (λ (a : After Replied). Follows (repliedChecked a) (conditionsOf (Call.Reply port text) s)) (sym (reply-presents port text s))
+    (presents-rows port (inReply text) _ s m (presented-rows (ownAccount port s) text))
 
 renew-rows : (port number count : ℕ) (seed new text : List ℕ) (s : State) → Made s
     → Follows (repliedChecked (Steps.renew port number count seed new text s)) (conditionsOf (Call.Renew port number count seed new text) s)
-unfolding Steps.renew Steps.renewRead renewChecked valuesChecked
 renew-rows port number count seed new text s m =
     let values = valuesRows number count seed (ownAccount port s) in
-    behind repliedChecked (replyRefused s) (λ why. refl) (renewChecked port number count seed s) _ (turnRows port s ++ values) _
-    (then-check (turnChecked port s) _ (turnRows port s) values (turn-rows port s m) (λ a. values-rows number count seed (ownAccount port s)))
-    (λ e. read-rows s (readingOf text) _ (replyRows text) _ (reply-rows text)
-    (offered-rows port text (renewedRoom (ownAccount port s) number count seed new) s m))
+    subst (λ (a : After Replied). Follows (repliedChecked a) (conditionsOf (Call.Renew port number count seed new text) s))
+    (sym (renew-presents port number count seed new text s))
+    (presents-rows port (inRenew number count seed new text) (values ++ replyRows text) s m
+    (then-check (valuesChecked number count seed (ownAccount port s)) _ values (replyRows text) (values-rows number count seed (ownAccount port s))
+    (λ e. reply-rows text)))
 
 -- ---- each call
 

@@ -17,13 +17,14 @@ use Rattle.text.specs.Kinds.{lowerOf}
 use Rattle.text.specs.Tests.{same, cases, same-self}
 use Rattle.password.specs.Algorithm.{numbered, algorithmChecked}
 use Rattle.password.specs.PhraseAndSeed.{seedChecked}
-use Rattle.reply.specs.Reply.{readingOf}
 use Rattle.accounts.specs.Rooms.{Room, remembered}
-use Rattle.accounts.specs.Accounts.{countWithin, renewedRoom, isOneOf, seedOther}
+use Rattle.accounts.specs.Accounts.{countWithin, isOneOf, seedOther, valuesChecked}
 use Rattle.table.specs.declared.Replied.{Replied}
 use Rattle.table.specs.Table.{State, Held, isThere, accountOf, ownAccount}
-use Rattle.table.specs.Steps.{replyRefused, turnChecked, renewChecked, renewRead, renew, read, offered}
+use Rattle.table.specs.Steps.{replyRefused, turnChecked, renewChecked, offered}
 use Rattle.reached.specs.Calls.{Call, Answer, repliedAnswer, answer, after}
+use Rattle.reached.specs.Presented.{Presented, Presents, renews, textChecked, presentIn, nextOf, presents}
+use Rattle.reached.specs.PresentedLaws.{call-presents}
 use Rattle.reached.specs.InTurn.{hasTurnFor, HasTurn}
 use Rattle.reached.specs.Made.{Made}
 use Rattle.reached.specs.SeedsHad.{keepsAccount, Renews, following, seedsAlong}
@@ -33,98 +34,106 @@ use Rattle.grounds.specs.Never.{test, ofAlgorithm, ofSeed, then-never, r
 use Rattle.grounds.specs.Full.{last-refuses}
 use Rattle.grounds.specs.Isolated.{wrong-held}
 use Rattle.grounds.specs.Keeps.{turn-account}
-use Rattle.grounds.specs.Owned.{unrenewed-keeps, call-steps-seeds, other-renewal-keeps}
-use Rattle.grounds.specs.Replies.{taken-renews}
-use Rattle.grounds.specs.Answering.{renew-by-id}
+use Rattle.grounds.specs.Owned.{unrenewed-keeps, call-steps-seeds, login-keeps, other-port-keeps}
+use Rattle.grounds.specs.Replies.{call-taken, taken-account, taken-renews}
+use Rattle.grounds.specs.Answering.{taken-by-id}
 use Rattle.grounds.specs.Unchanged.{offered-other, refused-unchanged}
-use Rattle.grounds.specs.WrongReplies.{reading-to-33, wrong-reply}
+use Rattle.grounds.specs.WrongReplies.{texts-to-35, wrong-reply}
 
 -- ---- 63
 
-module _ (p number count : ℕ) (seed new text : List ℕ) (s : State) where
-  -- The checks before it, and then whether the seed is a remembered one.
-  abbrev before : List Checked
-  before = turnChecked p s ∷ countWithin count ∷ algorithmChecked (numbered number) ∷ seedChecked seed ∷ []
+module _ (p number count : ℕ) (seed : List ℕ) (new present : Reading) (c : Call) (s : State)
+    (own : Presents p (Presented.Renewal number count seed new present) c)
+  where
+    abbrev what : Presented
+    what = Presented.Renewal number count seed new present
 
-  abbrev isRemembered : Bool
-  isRemembered = isOneOf (map lowerOf seed) (remembered (ownAccount p s))
+    -- The checks before it, and then whether the seed is a remembered one.
+    abbrev before : List Checked
+    before = turnChecked p s ∷ countWithin count ∷ algorithmChecked (numbered number) ∷ seedChecked seed ∷ []
 
-  before-other : inOrder before ≡ Checked.Refused Refusal.SeedSame → ⊥
-  before-other =
-      then-never (63 ∷ []) Refusal.SeedSame refl (turnChecked p s) _ (turn-never (63 ∷ []) Refusal.SeedSame refl p s refl)
-      (rows-never (63 ∷ []) Refusal.SeedSame refl
-      (test (leb 2 count && leb count 9999) Refusal.CountOutside ∷ ofAlgorithm (numbered number) ∷ ofSeed seed ∷ []) refl)
+    abbrev isRemembered : Bool
+    isRemembered = isOneOf (map lowerOf seed) (remembered (ownAccount p s))
 
-  -- What comes after the checks is never refused with it.
-  read-other : renewRead p number count seed new text s .answer ≡ Replied.Refused Refusal.SeedSame → ⊥
-  unfolding renewRead
-  read-other = by (readingOf text) (reading-to-33 text Refusal.SeedSame)
-    where
-      by : (r : Reading) → (r ≡ Reading.Refused Refusal.SeedSame → 63 ≤ 33)
-          → read s r (λ w. offered p w (renewedRoom (ownAccount p s) number count seed new) s) .answer ≡ Replied.Refused Refusal.SeedSame → ⊥
-      by (Reading.Password w) h e =
-          offered-other Refusal.SeedSame refl p w (renewedRoom (ownAccount p s) number count seed new) s (ap repliedAnswer e)
-      by (Reading.Refused why) h e = let one : why ≡ Refusal.SeedSame = cc in omega (arith, h (ap Reading.Refused one))
+    before-other : inOrder before ≡ Checked.Refused Refusal.SeedSame → ⊥
+    before-other =
+        then-never (63 ∷ []) Refusal.SeedSame refl (turnChecked p s) _ (turn-never (63 ∷ []) Refusal.SeedSame refl p s refl)
+        (rows-never (63 ∷ []) Refusal.SeedSame refl
+        (test (leb 2 count && leb count 9999) Refusal.CountOutside ∷ ofAlgorithm (numbered number) ∷ ofSeed seed ∷ []) refl)
 
-  -- So it is the checks that are refused with it.
-  checks-refuse : (renew p number count seed new text s .answer ≡ Replied.Refused Refusal.SeedSame)
-      ↔ (renewChecked p number count seed s ≡ Checked.Refused Refusal.SeedSame)
-  unfolding renew
-  checks-refuse = by (renewChecked p number count seed s)
-    where
-      by : (k : Checked) → (unless (replyRefused s) k (renewRead p number count seed new text s) .answer ≡ Replied.Refused Refusal.SeedSame)
-          ↔ (k ≡ Checked.Refused Refusal.SeedSame)
-      by Checked.Good = (λ e. absurd (read-other e), λ e. let z : _≡_ {A = ℕ} 0 1 = cc in absurd (omega arith))
-      by (Checked.Refused why) = (
-        λ e. let one : why ≡ Refusal.SeedSame = cc in ap Checked.Refused one,
-        λ e. let one : why ≡ Refusal.SeedSame = cc in ap Replied.Refused one,
-      )
+    -- Neither the texts nor what is offered are refused with it, and so it is the table's checks.
+    checks-refuse : (repliedAnswer (presents p what s .answer) ≡ Answer.Refused Refusal.SeedSame)
+        ↔ (renewChecked p number count seed s ≡ Checked.Refused Refusal.SeedSame)
+    unfolding presents renewChecked valuesChecked
+    checks-refuse = by (renewChecked p number count seed s) (textChecked what) (texts-to-35 p what c own Refusal.SeedSame)
+      where
+        by : (k texts : Checked) → (texts ≡ Checked.Refused Refusal.SeedSame → 63 ≤ 35)
+            → (repliedAnswer (unless (replyRefused s) (unless Checked.Refused k texts) (offered p (presentIn what) (nextOf what (ownAccount p s)) s) .answer)
+            ≡ Answer.Refused Refusal.SeedSame)
+            ↔ (k ≡ Checked.Refused Refusal.SeedSame)
+        by Checked.Good Checked.Good h = (
+          λ e. absurd (offered-other Refusal.SeedSame refl p (presentIn what) (nextOf what (ownAccount p s)) s e),
+          λ e. let z : _≡_ {A = ℕ} 0 1 = cc in absurd (omega arith),
+        )
+        by Checked.Good (Checked.Refused why) h = (
+          λ e. let one : why ≡ Refusal.SeedSame = cc in absurd (omega (arith, h (ap Checked.Refused one))),
+          λ e. let z : _≡_ {A = ℕ} 0 1 = cc in absurd (omega arith),
+        )
+        by (Checked.Refused why) texts h = (
+          λ e. let one : why ≡ Refusal.SeedSame = cc in ap Checked.Refused one,
+          λ e. let one : why ≡ Refusal.SeedSame = cc in ap Answer.Refused one,
+        )
 
-  pub remembered-exactly : (renew p number count seed new text s .answer ≡ Replied.Refused Refusal.SeedSame)
-      ↔ ((inOrder before ≡ Checked.Good) × (isRemembered ≡ true))
-  unfolding renewChecked
-  remembered-exactly = (
-    λ e.
-        let parts = last-refuses Refusal.SeedSame (inOrder before) (seedOther seed (ownAccount p s)) before-other (parted ∙ checks-refuse .0 e) in
-        (parts .0, is-one isRemembered (parts .1)),
-    λ h. checks-refuse .1
-        (sym parted ∙ ap₂ (λ (k : Checked) (b : Bool). unless Checked.Refused k (inOrder (must (not b) Refusal.SeedSame ∷ []))) (h .0) (h .1)),
-  )
-    where
-      parted : unless Checked.Refused (inOrder before) (inOrder (seedOther seed (ownAccount p s) ∷ [])) ≡ renewChecked p number count seed s
-      parted = in-parts before (seedOther seed (ownAccount p s) ∷ [])
+    pub remembered-exactly : (answer c s ≡ Answer.Refused Refusal.SeedSame) ↔ ((inOrder before ≡ Checked.Good) × (isRemembered ≡ true))
+    unfolding renewChecked
+    remembered-exactly = (
+      λ e.
+          let parts = last-refuses Refusal.SeedSame (inOrder before) (seedOther seed (ownAccount p s)) before-other
+          (parted ∙ checks-refuse .0 (sym did ∙ e)) in
+          (parts .0, is-one isRemembered (parts .1)),
+      λ h. did ∙ checks-refuse .1
+          (sym parted ∙ ap₂ (λ (k : Checked) (b : Bool). unless Checked.Refused k (inOrder (must (not b) Refusal.SeedSame ∷ []))) (h .0) (h .1)),
+    )
+      where
+        did : answer c s ≡ repliedAnswer (presents p what s .answer)
+        did = call-presents p what c s own .0
 
-      is-one : (b : Bool) → must (not b) Refusal.SeedSame ≡ Checked.Refused Refusal.SeedSame → b ≡ true
-      is-one true e = refl
-      is-one false e = let z : _≡_ {A = ℕ} 0 1 = cc in absurd (omega arith)
+        parted : unless Checked.Refused (inOrder before) (inOrder (seedOther seed (ownAccount p s) ∷ [])) ≡ renewChecked p number count seed s
+        parted = in-parts before (seedOther seed (ownAccount p s) ∷ [])
+
+        is-one : (b : Bool) → must (not b) Refusal.SeedSame ≡ Checked.Refused Refusal.SeedSame → b ≡ true
+        is-one true e = refl
+        is-one false e = let z : _≡_ {A = ℕ} 0 1 = cc in absurd (omega arith)
 
 -- ---- an accepted renewal, by the account's id
 
-module _ (p i n number count : ℕ) (seed new text : List ℕ) (s : State) (m : Made s) (t : HasTurn p i s)
-    (e : renew p number count seed new text s .answer ≡ Replied.Accepted n)
-  where
-    abbrev next : State
-    next = renew p number count seed new text s .state
+module _ (p i n : ℕ) (c : Call) (s : State) (m : Made s) (t : HasTurn p i s) (e : answer c s ≡ Answer.Count n) where
+  -- The account is the next one.
+  pub next-by-id : (what : Presented) → Presents p what c → accountOf i (after c s) ≡ nextOf what (accountOf i s)
+  next-by-id what own =
+      let taken = call-taken p n what s c own e in
+      sym (taken-by-id p i n what s (after c s) m t taken) ∙ taken-account p n what s (after c s) taken
+      ∙ ap (nextOf what) (turn-account p i s m t)
 
-    -- The account is the renewed one.
-    by-id : accountOf i next ≡ renewedRoom (accountOf i s) number count seed new
-    by-id =
-        sym (renew-by-id p i n number count seed new text s m t e) ∙ taken-renews p n number count seed new text s e .1 .becomes
-        ∙ ap (λ (old : Room). renewedRoom old number count seed new) (turn-account p i s m t)
+  pub renewed-by-id : (number count : ℕ) (seed : List ℕ) (new present : Reading) → Presents p (Presented.Renewal number count seed new present) c
+      → remembered (accountOf i (after c s)) ≡ map lowerOf seed ∷ take 7 (remembered (accountOf i s))
+  renewed-by-id number count seed new present own = ap remembered (next-by-id (Presented.Renewal number count seed new present) own)
 
-    pub renewed-by-id : remembered (accountOf i next) ≡ map lowerOf seed ∷ take 7 (remembered (accountOf i s))
-    renewed-by-id = ap remembered by-id
+  -- Its seed is another, and so one more of those that it has one after the other.
+  renewed-another : (what : Presented) → Presents p what c → renews what ≡ true → same (accountOf i (after c s) .seed) (accountOf i s .seed) ≡ false
+  renewed-another (Presented.Login present) own f = absurd (true≢false (sym f))
+  renewed-another (Presented.Renewal number count seed new present) own f =
+      let what = Presented.Renewal number count seed new present in
+      let taken = call-taken p n what s c own e in
+      let other = taken-renews p n number count seed new present s (after c s) taken .2 .other in
+      ap (λ (room : Room). same (room .seed) (accountOf i s .seed)) (next-by-id what own)
+      ∙ subst (λ (old : Room). same (map lowerOf seed) (old .seed) ≡ false) (turn-account p i s m t) (not-present (map lowerOf seed) (ownAccount p s) other)
+  renewed-another (Presented.Refused why) own f = absurd (true≢false (sym f))
 
-    -- Its seed is another, and so one more of those that it has one after the other.
-    pub renewed-adds : (calls : List Call)
-        → seedsAlong i (Call.Renew p number count seed new text ∷ calls) s ≡ accountOf i s .seed ∷ seedsAlong i calls next
-    unfolding following
-    renewed-adds calls = rw (ap (λ (x : List ℕ). same x (accountOf i s .seed)) (ap (λ (room : Room). room .seed) by-id) ∙ another)
-      where
-        another : same (map lowerOf seed) (accountOf i s .seed) ≡ false
-        another =
-            subst (λ (old : Room). same (map lowerOf seed) (old .seed) ≡ false) (turn-account p i s m t)
-            (not-present (map lowerOf seed) (ownAccount p s) (taken-renews p n number count seed new text s e .1 .other))
+pub renewed-adds : (i : ℕ) (c : Call) (s : State) → Made s → Renews i s c → (calls : List Call)
+    → seedsAlong i (c ∷ calls) s ≡ accountOf i s .seed ∷ seedsAlong i calls (after c s)
+unfolding following
+renewed-adds i c s m r calls = rw (renewed-another (r .port) i (r .count) c s m (r .turn) (r .accepted) (r .what) (r .presented) (r .renewal))
 
 -- ---- an account that keeps its seed
 
@@ -150,6 +159,23 @@ refused-keeps why c s e i =
 -- ---- a call that doesn't renew the account
 
 module _ (s : State) (i : ℕ) (h : isThere i s ≡ true) where
+  -- Something is presented: it is refused; or accepted, and then not for this account, or to log in.
+  presented-remembers : (p : ℕ) (what : Presented) (c : Call) → Presents p what c → (Renews i s c → ⊥)
+      → remembered (accountOf i (after c s)) ≡ remembered (accountOf i s)
+  presented-remembers p what c own n = by (presents p what s .answer) (call-presents p what c s own .0)
+    where
+      turn : (answered : ℕ) → answer c s ≡ Answer.Count answered → hasTurnFor p i s ≡ true
+          → remembered (accountOf i (after c s)) ≡ remembered (accountOf i s)
+      turn answered e t =
+          cases (renews what)
+          (λ f. absurd (n (record { port = p; count = answered; what = what; presented = own; renewal = f; turn = t; accepted = e })))
+          (λ f. unrenewed-keeps s i h c (login-keeps p i what c own f) .1)
+
+      by : (a : Replied) → answer c s ≡ repliedAnswer a → remembered (accountOf i (after c s)) ≡ remembered (accountOf i s)
+      by (Replied.Accepted answered) e =
+          cases (hasTurnFor p i s) (turn answered e) (λ f. ap remembered (other-port-keeps p i what c s own h f))
+      by (Replied.Refused why) e = ap remembered (refused-keeps why c s e i)
+
   -- It remembers what it did, if the call doesn't remove it; on any table.
   pub unrenewed-remembers : (c : Call) → keepsAccount i c ≡ true → (Renews i s c → ⊥)
       → remembered (accountOf i (after c s)) ≡ remembered (accountOf i s)
@@ -158,15 +184,8 @@ module _ (s : State) (i : ℕ) (h : isThere i s ≡ true) where
   unrenewed-remembers (Call.Join port id) q n = unrenewed-keeps s i h (Call.Join port id) q .1
   unrenewed-remembers (Call.Leave port) q n = unrenewed-keeps s i h (Call.Leave port) q .1
   unrenewed-remembers (Call.Challenge port room) q n = refl
-  unrenewed-remembers (Call.Reply port text) q n = unrenewed-keeps s i h (Call.Reply port text) q .1
-  unrenewed-remembers (Call.Renew p number count seed new text) q n = ap remembered (by (renew p number count seed new text s .answer) refl)
-    where
-      by : (a : Replied) → renew p number count seed new text s .answer ≡ a
-          → accountOf i (renew p number count seed new text s .state) ≡ accountOf i s
-      by (Replied.Accepted answered) e =
-          other-renewal-keeps p i number count seed new text s h
-          (cases (hasTurnFor p i s) (λ t. absurd (n (Renews.accepted p answered number count seed new text t e))) (λ f. f))
-      by (Replied.Refused why) e = refused-keeps why (Call.Renew p number count seed new text) s (ap repliedAnswer e) i
+  unrenewed-remembers (Call.Reply port text) q n = presented-remembers port _ _ (Presents.by-reply text) n
+  unrenewed-remembers (Call.Renew port number count seed new text) q n = presented-remembers port _ _ (Presents.by-renew number count seed new text) n
   unrenewed-remembers Call.Tick q n = unrenewed-keeps s i h Call.Tick q .1
 
   -- So its seed is the same, and none is added to those that it has one after the other.

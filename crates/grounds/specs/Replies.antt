@@ -2,7 +2,7 @@
 use Prim.Native.Nat.{ℕ, zero, suc, _+_, _≤_, _<_}
 use native.Mathlib.Omega.{arith}
 use mathlib.Core.Path.{_≡_, refl, sym, ap, _∙_, subst}
-use mathlib.Core.Bool.{Bool, true, false, cond}
+use mathlib.Core.Bool.{Bool, true, false, true≢false, cond}
 use mathlib.Core.List.{List, [], _∷_, map}
 use borrow.Author.Tests.{eqb-true, eq-eqb, ne-eqb, le-leb, leb-true, lt-ltb, ltb-true, not-true}
 use lib.Dec.{eqb, leb}
@@ -13,21 +13,35 @@ use Rattle.text.specs.Tests.{both}
 use Rattle.refusal.specs.declared.Refusal.{Refusal}
 use Rattle.refusal.specs.declared.Checked.{Checked}
 use Rattle.refusal.specs.declared.Reading.{Reading}
-use Rattle.refusal.specs.Checks.{unless}
-use Rattle.refusal.specs.Laws.{must-good}
+use Rattle.refusal.specs.Numbers.{passwordIn}
+use Rattle.refusal.specs.Checks.{unless, readChecked}
+use Rattle.refusal.specs.Laws.{must-good, both-good}
 use Rattle.password.specs.declared.algorithm.Named.{Named}
 use Rattle.password.specs.Algorithm.{numbered}
 use Rattle.password.specs.AlgorithmLaws.{checked-known}
 use Rattle.password.specs.Password.{bytesOf, hash}
-use Rattle.reply.specs.Reply.{readingOf}
+use Rattle.extended.specs.declared.reply_texts.ReplyText.{ReplyText}
+use Rattle.extended.specs.ReplyTexts.{replyTextOf}
 use Rattle.line.specs.Line.{Waiting, left}
-use Rattle.table.specs.declared.Replied.{Replied}
 use Rattle.accounts.specs.Rooms.{Room, remembered}
 use Rattle.table.specs.Table.{State, Held, freeRoom, standsAt, waits, ownRoom, ownAccount, hasTurn, lined}
 use Rattle.table.specs.Steps as Steps
-use Rattle.accounts.specs.Accounts.{isOneOf, renewedRoom, lowered}
-use Rattle.table.specs.Steps.{replyRefused, turnChecked, offered, read, replyRead, reply, renewChecked, renewRead, renew}
+use Rattle.accounts.specs.Accounts.{isOneOf, lowered}
+use Rattle.table.specs.Steps.{replyRefused, turnChecked, offered, loginRead, replyBy, reply}
 use Rattle.table.specs.StepLaws.{renew-passed}
+use Rattle.reached.specs.Calls.{Call, Answer, repliedAnswer, answer, after}
+use Rattle.reached.specs.Presented.{
+  Presented,
+  Presents,
+  renews,
+  newValuesChecked,
+  tableChecked,
+  textChecked,
+  presentIn,
+  nextOf,
+  presents,
+}
+use Rattle.reached.specs.PresentedLaws.{renewal-checked, call-presents}
 use Rattle.reached.specs.Day.{SteppedDown, Renewed, waitedFor}
 use Rattle.reached.specs.Outcome.{TurnGood, turn-good}
 
@@ -48,65 +62,75 @@ accepted-account p next s inside =
     line-changed (left p) (set (s .rooms) at held) at
     ∙ ap (λ (h : Held). h .account) (getD-set-same (s .rooms) at held freeRoom inside)
 
--- What was presented and accepted with the answer `count`: a text, read as a password whose hash, by the account's algorithm, is the one stored.
--- The account becomes what `next` makes of it.
-pub record Taken (p count : ℕ) (text : Reading) (next : ℕ → Room) (s state : State) : Type 0 where
-  pub taken : ℕ
-  pub said : text ≡ Reading.Password taken
-  pub turn : TurnGood p s
-  pub hashed : hash (ownAccount p s .algorithm) (bytesOf taken) ≡ ownAccount p s .password
-  pub answered : count ≡ next taken .count
-  pub left : state ≡ Steps.accepted p (next taken) s .state
+-- What was presented and accepted with the answer `count`: its checks found nothing wrong, and its hash, by the account's algorithm, is the one
+-- stored. The account becomes what it makes of it.
+pub record Taken (p count : ℕ) (what : Presented) (s state : State) : Type 0 where
+  pub checked : tableChecked p what s ≡ Checked.Good
+  pub texts : textChecked what ≡ Checked.Good
+  pub hashed : hash (ownAccount p s .algorithm) (bytesOf (presentIn what)) ≡ ownAccount p s .password
+  pub answered : count ≡ nextOf what (ownAccount p s) .count
+  pub left : state ≡ Steps.accepted p (nextOf what (ownAccount p s)) s .state
 
-not-accepted : {A : Type 0} (why : Refusal) (n : ℕ) → Replied.Refused why ≡ Replied.Accepted n → A
+not-accepted : {A : Type 0} (why : Refusal) (n : ℕ) → Answer.Refused why ≡ Answer.Count n → A
 not-accepted why n e = let z : _≡_ {A = ℕ} 0 1 = cc in absurd (omega arith)
 
-module _ (p n : ℕ) (next : ℕ → Room) (s : State) where
-  offered-taken : TurnGood p s → (w : ℕ) → offered p w (next w) s .answer ≡ Replied.Accepted n
-      → Taken p n (Reading.Password w) next s (offered p w (next w) s .state)
+module _ (p n : ℕ) (what : Presented) (s : State) where
+  abbrev old : Room
+  old = ownAccount p s
+
+  offered-taken : tableChecked p what s ≡ Checked.Good → textChecked what ≡ Checked.Good
+      → repliedAnswer (offered p (presentIn what) (nextOf what old) s .answer) ≡ Answer.Count n
+      → Taken p n what s (offered p (presentIn what) (nextOf what old) s .state)
   unfolding offered
-  offered-taken g w e = test (eqb (hash (ownAccount p s .algorithm) (bytesOf w)) (ownAccount p s .password)) refl e
+  offered-taken k l = test (eqb (hash (old .algorithm) (bytesOf (presentIn what))) (old .password)) refl
     where
-      test : (t : Bool) → eqb (hash (ownAccount p s .algorithm) (bytesOf w)) (ownAccount p s .password) ≡ t
-          → cond t (Steps.accepted p (next w) s) (Steps.rejected p s) .answer ≡ Replied.Accepted n
-          → Taken p n (Reading.Password w) next s (cond t (Steps.accepted p (next w) s) (Steps.rejected p s) .state)
-      test true f e =
-          record {
-            taken = w;
-            said = refl;
-            turn = g;
-            hashed = eqb-true (hash (ownAccount p s .algorithm) (bytesOf w)) (ownAccount p s .password) f;
-            answered = cc;
-            left = refl;
-          }
+      test : (t : Bool) → eqb (hash (old .algorithm) (bytesOf (presentIn what))) (old .password) ≡ t
+          → repliedAnswer (cond t (Steps.accepted p (nextOf what old) s) (Steps.rejected p s) .answer) ≡ Answer.Count n
+          → Taken p n what s (cond t (Steps.accepted p (nextOf what old) s) (Steps.rejected p s) .state)
+      test true f e = record {
+        checked = k;
+        texts = l;
+        hashed = eqb-true (hash (old .algorithm) (bytesOf (presentIn what))) (old .password) f;
+        answered = cc;
+        left = refl;
+      }
       test false f e = not-accepted _ n e
 
-  -- Behind a check that finds the turn good, of what a text was read as.
-  checked-taken : (k : Checked) → (k ≡ Checked.Good → TurnGood p s) → (r : Reading)
-      → unless (replyRefused s) k (read s r (λ w. offered p w (next w) s)) .answer ≡ Replied.Accepted n
-      → Taken p n r next s (unless (replyRefused s) k (read s r (λ w. offered p w (next w) s)) .state)
-  checked-taken (Checked.Refused why) g r e = not-accepted why n e
-  checked-taken Checked.Good g (Reading.Refused why) e = not-accepted why n e
-  checked-taken Checked.Good g (Reading.Password w) e = offered-taken (g refl) w e
+  presents-taken : repliedAnswer (presents p what s .answer) ≡ Answer.Count n → Taken p n what s (presents p what s .state)
+  unfolding presents
+  presents-taken = go (unless Checked.Refused (tableChecked p what s) (textChecked what)) refl
+    where
+      go : (k : Checked) → unless Checked.Refused (tableChecked p what s) (textChecked what) ≡ k
+          → repliedAnswer (unless (replyRefused s) k (offered p (presentIn what) (nextOf what old) s) .answer) ≡ Answer.Count n
+          → Taken p n what s (unless (replyRefused s) k (offered p (presentIn what) (nextOf what old) s) .state)
+      go (Checked.Refused why) f e = not-accepted why n e
+      go Checked.Good f e = let passed = both-good (tableChecked p what s) (textChecked what) f in offered-taken (passed .0) (passed .1) e
 
-  -- The account is then the next one.
-  taken-account : (text : Reading) (state : State) (r : Taken p n text next s state) → waitedFor p s state ≡ next (r .taken)
-  taken-account text state r = ap (waitedFor p s) (r .left) ∙ accepted-account p (next (r .taken)) s
-      (ltb-true (standsAt p (s .rooms)) (length (s .rooms)) (r .turn .inside))
+  -- Of the call.
+  pub call-taken : (c : Call) → Presents p what c → answer c s ≡ Answer.Count n → Taken p n what s (after c s)
+  call-taken c own e =
+      let did = call-presents p what c s own in
+      subst (Taken p n what s) (sym (did .1)) (presents-taken (sym (did .0) ∙ e))
 
-pub reply-taken : (p n : ℕ) (text : List ℕ) (s : State) → reply p text s .answer ≡ Replied.Accepted n
-    → Taken p n (readingOf text) (lowered (ownAccount p s)) s (reply p text s .state)
-unfolding reply replyRead
-reply-taken p n text s e = checked-taken p n (lowered (ownAccount p s)) s (turnChecked p s) (turn-good p s) (readingOf text) e
+  module _ (state : State) (r : Taken p n what s state) where
+    pub taken-turn : TurnGood p s
+    taken-turn = turn-good p s (both-good (turnChecked p s) (newValuesChecked what old) (r .checked) .0)
 
-pub taken-steps-down : (p n : ℕ) (text : Reading) (s state : State) → Taken p n text (lowered (ownAccount p s)) s state
+    -- The account is then the next one.
+    pub taken-account : waitedFor p s state ≡ nextOf what old
+    taken-account =
+        ap (waitedFor p s) (r .left) ∙ accepted-account p (nextOf what old) s (ltb-true (standsAt p (s .rooms)) (length (s .rooms)) (taken-turn .inside))
+
+-- ---- a login
+
+pub taken-steps-down : (p n : ℕ) (what : Presented) (s state : State) → renews what ≡ false → Taken p n what s state
     → (n ≡ waitedFor p s state .count) × SteppedDown (ownAccount p s) (waitedFor p s state)
-taken-steps-down p n text s state r =
+taken-steps-down p n (Presented.Login present) s state e r =
     let old = ownAccount p s in
-    let next = lowered old (r .taken) in
-    let unused = r .turn .unused in
+    let next = lowered old (passwordIn present) in
+    let unused = taken-turn p n (Presented.Login present) s state r .unused in
     let down : next .count + 1 ≡ old .count = omega arith in
-    subst (λ (room : Room). (n ≡ room .count) × SteppedDown old room) (sym (taken-account p n (lowered old) s text state r)) (
+    subst (λ (room : Room). (n ≡ room .count) × SteppedDown old room) (sym (taken-account p n (Presented.Login present) s state r)) (
       r .answered,
       record {
         same-id = refl;
@@ -117,45 +141,39 @@ taken-steps-down p n text s state r =
         old-is-hash = sym (r .hashed);
       },
     )
+taken-steps-down p n (Presented.Renewal number count seed new present) s state e r = absurd (true≢false e)
+taken-steps-down p n (Presented.Refused why) s state e r =
+    let refused : Checked.Refused why ≡ Checked.Good = r .texts in
+    let z : _≡_ {A = ℕ} 0 1 = cc in
+    absurd (omega arith)
 
 -- ---- a renewal
 
-module _ (p n number count : ℕ) (seed new text : List ℕ) (s : State) (e : renew p number count seed new text s .answer ≡ Replied.Accepted n) where
-  -- The account that it makes, whatever was presented.
-  abbrev next : ℕ → Room
-  next w = renewedRoom (ownAccount p s) number count seed new
+-- A text that isn't refused was read.
+read-password : (r : Reading) → readChecked r ≡ Checked.Good → r ≡ Reading.Password (passwordIn r)
+read-password (Reading.Password w) e = refl
+read-password (Reading.Refused why) e = let z : _≡_ {A = ℕ} 0 1 = cc in absurd (omega arith)
 
-  pub taken-renewal : Taken p n (readingOf text) next s (renew p number count seed new text s .state)
-  unfolding renew renewRead
-  taken-renewal =
-      checked-taken p n next s (renewChecked p number count seed s) (λ k. turn-good p s (renew-passed p number count seed s k .turn)) (readingOf text) e
-
-  -- Its checks found nothing wrong.
-  checks-good : renewChecked p number count seed s ≡ Checked.Good
-  unfolding renew
-  checks-good = go (renewChecked p number count seed s) e
-    where
-      go : (k : Checked) → unless (replyRefused s) k (renewRead p number count seed new text s) .answer ≡ Replied.Accepted n → k ≡ Checked.Good
-      go Checked.Good f = refl
-      go (Checked.Refused why) f = not-accepted why n f
-
-  pub taken-renews : (n ≡ count)
-      × Renewed number count seed new text (ownAccount p s) (waitedFor p s (renew p number count seed new text s .state))
-  taken-renews =
-      let passed = renew-passed p number count seed s checks-good in
-      let becomes = taken-account p n next s (readingOf text) (renew p number count seed new text s .state) taken-renewal in
-      let from = leb-true 2 count (both (leb 2 count) (leb count 9999) (passed .within) .0) in (
-        taken-renewal .answered,
-        record {
-          becomes = becomes;
-          known = checked-known (numbered number) (passed .algorithm) ∙ ap (λ (room : Room). Named.Is (room .algorithm)) (sym becomes);
-          other = not-true (isOneOf (map lowerOf seed) (remembered (ownAccount p s))) (must-good _ _ (passed .new));
-          unused = subst (λ (room : Room). 1 < room .count) (sym becomes) (omega arith);
-          presented = taken-renewal .taken;
-          read = taken-renewal .said;
-          old-is-hash = sym (taken-renewal .hashed);
-        },
-      )
+pub taken-renews : (p n number count : ℕ) (seed : List ℕ) (new present : Reading) (s state : State)
+    → Taken p n (Presented.Renewal number count seed new present) s state
+    → (n ≡ count) × (new ≡ Reading.Password (passwordIn new)) × Renewed number count seed (passwordIn new) present (ownAccount p s) (waitedFor p s state)
+taken-renews p n number count seed new present s state r =
+    let passed = renew-passed p number count seed s (sym (renewal-checked p number count seed new present s) ∙ r .checked) in
+    let texts = both-good (readChecked new) (readChecked present) (r .texts) in
+    let becomes = taken-account p n (Presented.Renewal number count seed new present) s state r in
+    let from = leb-true 2 count (both (leb 2 count) (leb count 9999) (passed .within) .0) in (
+      r .answered,
+      read-password new (texts .0),
+      record {
+        becomes = becomes;
+        known = checked-known (numbered number) (passed .algorithm) ∙ ap (λ (room : Room). Named.Is (room .algorithm)) (sym becomes);
+        other = not-true (isOneOf (map lowerOf seed) (remembered (ownAccount p s))) (must-good _ _ (passed .new));
+        unused = subst (λ (room : Room). 1 < room .count) (sym becomes) (omega arith);
+        presented = passwordIn present;
+        read = read-password present (texts .1);
+        old-is-hash = sym (r .hashed);
+      },
+    )
 
 -- ---- a reply that is accepted
 
@@ -164,8 +182,8 @@ pub turn-checked : (p : ℕ) (s : State) → p ≤ 3 → waits p s ≡ true → 
 unfolding turnChecked
 turn-checked p s k l f t u = rw (le-leb p 3 k, l, f, ne-eqb (ownAccount p s .id) 0 t, lt-ltb 1 (ownAccount p s .count) u)
 
-pub reply-accepted : (p w : ℕ) (text : List ℕ) (s : State) → turnChecked p s ≡ Checked.Good → readingOf text ≡ Reading.Password w
+pub reply-accepted : (p w : ℕ) (text : List ℕ) (s : State) → turnChecked p s ≡ Checked.Good → replyTextOf text ≡ ReplyText.Login (Reading.Password w)
     → hash (ownAccount p s .algorithm) (bytesOf w) ≡ ownAccount p s .password
     → reply p text s ≡ Steps.accepted p (lowered (ownAccount p s) w) s
-unfolding reply replyRead offered
+unfolding reply replyBy loginRead offered
 reply-accepted p w text s k r e = rw (k, r, eq-eqb (hash (ownAccount p s .algorithm) (bytesOf w)) (ownAccount p s .password) e)

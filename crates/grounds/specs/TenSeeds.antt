@@ -21,6 +21,7 @@ use Rattle.reply.specs.Reply.{isWord, sixWords, readingOf}
 use Rattle.line.specs.Line.{some, others, turnWithout, left}
 use Rattle.accounts.specs.Accounts.{isOneOf}
 use Rattle.table.specs.Table.{State, fresh, placeOf, inLines, standsAt}
+use Rattle.table.specs.Steps as Steps
 use Rattle.table.specs.Steps.{enrolChecked, enrol, joinChecked, joins, join, turnChecked, offered, renewChecked, renewRead, renew}
 use Rattle.reached.specs.Calls.{Call, Answer, after, answers}
 use Rattle.reached.specs.SeedsHad.{following, seedsAlong}
@@ -50,7 +51,7 @@ pub way-back :
     ≡ Answer.Done ∷ Answer.Count 2 ∷ Answer.Done ∷ Answer.Refused Refusal.SeedSame ∷ Answer.Refused Refusal.SeedSame ∷ [])
     × (seedsAlong 1 nineRenewals begun
     ≡ map codes ("lift1" ∷ "lift2" ∷ "lift3" ∷ "lift4" ∷ "lift5" ∷ "lift6" ∷ "lift7" ∷ "lift8" ∷ "lift9" ∷ "lift1" ∷ []))
-unfolding answers following flatten enrolChecked enrol joinChecked joins join turnChecked offered renewChecked renewRead renew isOneOf
+unfolding answers following flatten enrolChecked enrol joinChecked joins join turnChecked offered renewChecked renewRead Steps.renewal renew isOneOf
     placeOf inLines standsAt some others turnWithout left plain every same codes readingOf sixWords isWord sixteenDigits hexReading
     parted unspaced digitsOf Digits.numberAfter hash fold numberAfter md5 registers absorbed compressed rounds
     performed operation round1 round2 round3 round4 blockAt paddedWord paddedByte upTo

@@ -7,19 +7,17 @@ use mathlib.Core.List.{[], _∷_}
 use lib.Dec.{eqb, leb}
 use Rattle.refusal.specs.declared.Refusal.{Refusal}
 use Rattle.refusal.specs.declared.Checked.{Checked}
-use Rattle.refusal.specs.declared.Reading.{Reading}
 use Rattle.refusal.specs.Numbers.{listingOf}
 use Rattle.refusal.specs.Checks.{unless}
 use Rattle.password.specs.Password.{bytesOf, hash}
-use Rattle.reply.specs.Reply.{readingOf}
-use Rattle.table.specs.declared.Replied.{Replied}
 use Rattle.accounts.specs.Rooms.{Room}
 use Rattle.table.specs.Table.{State, portOf, ownAccount}
 use Rattle.table.specs.TableChecks.{accountThere}
 use Rattle.table.specs.Steps as Steps
-use Rattle.accounts.specs.Accounts.{lowered, renewedRoom}
-use Rattle.table.specs.Steps.{After, refused, replyRefused, done, enrolChecked, joinChecked, leaveChecked, turnChecked, renewChecked, offered, read}
+use Rattle.table.specs.Steps.{refused, replyRefused, done, enrolChecked, joinChecked, leaveChecked, offered}
 use Rattle.reached.specs.Calls.{Call, Answer, checkedAnswer, repliedAnswer, answer, after}
+use Rattle.reached.specs.Presented.{Presented, Presents, tableChecked, textChecked, presentIn, nextOf, presents}
+use Rattle.reached.specs.PresentedLaws.{call-presents}
 use Rattle.grounds.specs.Listed.{isIn}
 
 settled-unchanged : (s s′ : State) (why : Refusal) (check : Checked)
@@ -46,25 +44,30 @@ module _ (why : Refusal) (other : isIn (listingOf why .0) (61 ∷ 62 ∷ []) ≡
       go false true f e = wrong-is Refusal.ReplyWrongThird refl (rw f at e)
       go false false f e = wrong-is Refusal.ReplyWrong refl (rw f at e)
 
-  replied-unchanged : (s : State) (check : Checked) (r : Reading) (next : ℕ → After Replied)
-      → ((w : ℕ) → repliedAnswer (next w .answer) ≡ Answer.Refused why → ⊥)
-      → repliedAnswer (unless (replyRefused s) check (read s r next) .answer) ≡ Answer.Refused why
-      → unless (replyRefused s) check (read s r next) .state ≡ s
-  replied-unchanged s (Checked.Refused w) r next k e = refl
-  replied-unchanged s Checked.Good (Reading.Refused w) next k e = refl
-  replied-unchanged s Checked.Good (Reading.Password w) next k e = absurd (k w e)
+  presents-unchanged : (port : ℕ) (what : Presented) (s : State) → repliedAnswer (presents port what s .answer) ≡ Answer.Refused why
+      → presents port what s .state ≡ s
+  unfolding presents
+  presents-unchanged port what s = go (unless Checked.Refused (tableChecked port what s) (textChecked what))
+    where
+      go : (k : Checked)
+          → repliedAnswer (unless (replyRefused s) k (offered port (presentIn what) (nextOf what (ownAccount port s)) s) .answer) ≡ Answer.Refused why
+          → unless (replyRefused s) k (offered port (presentIn what) (nextOf what (ownAccount port s)) s) .state ≡ s
+      go (Checked.Refused w) e = refl
+      go Checked.Good e = absurd (offered-other port (presentIn what) (nextOf what (ownAccount port s)) s e)
+
+  presented-unchanged : (port : ℕ) (what : Presented) (c : Call) (s : State) → Presents port what c → answer c s ≡ Answer.Refused why → after c s ≡ s
+  presented-unchanged port what c s p e =
+      let did = call-presents port what c s p in
+      did .1 ∙ presents-unchanged port what s (sym (did .0) ∙ e)
 
   pub refused-unchanged : (c : Call) (s : State) → answer c s ≡ Answer.Refused why → after c s ≡ s
-  unfolding Steps.enrol Steps.remove Steps.join Steps.leave Steps.reply Steps.replyRead Steps.renew Steps.renewRead
+  unfolding Steps.enrol Steps.remove Steps.join Steps.leave
   refused-unchanged (Call.Enrol id number count seed password) s e = settled-unchanged s _ why (enrolChecked id number count seed s) e
   refused-unchanged (Call.Remove id) s e = settled-unchanged s _ why (accountThere id s) e
   refused-unchanged (Call.Join port id) s e = settled-unchanged s _ why (joinChecked port id s) e
   refused-unchanged (Call.Leave port) s e = settled-unchanged s _ why (leaveChecked port s) e
   refused-unchanged (Call.Challenge port room) s e = refl
-  refused-unchanged (Call.Reply port text) s e =
-      replied-unchanged s (turnChecked port s) (readingOf text) _
-      (λ w. offered-other port w (lowered (ownAccount port s) w) s) e
+  refused-unchanged (Call.Reply port text) s e = presented-unchanged port _ _ s (Presents.by-reply text) e
   refused-unchanged (Call.Renew port number count seed new text) s e =
-      replied-unchanged s (renewChecked port number count seed s) (readingOf text) _
-      (λ w. offered-other port w (renewedRoom (ownAccount port s) number count seed new) s) e
+      presented-unchanged port _ _ s (Presents.by-renew number count seed new text) e
   refused-unchanged Call.Tick s e = let z : _≡_ {A = ℕ} 0 1 = cc in absurd (omega arith)

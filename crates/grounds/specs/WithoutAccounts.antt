@@ -18,13 +18,15 @@ use Rattle.password.specs.Algorithm.{numbered, algorithmChecked}
 use Rattle.password.specs.PhraseAndSeed.{seedChecked}
 use Rattle.line.specs.Line.{Waiting, empty, some, standsIn, ticked}
 use Rattle.port.specs.Port.{cooled}
-use Rattle.accounts.specs.Accounts.{countWithin, newRoom, seedOther}
+use Rattle.accounts.specs.Accounts.{countWithin, newRoom}
 use Rattle.table.specs.declared.Replied.{Replied}
 use Rattle.table.specs.Table.{State, Held, freeRoom, placeOf, holds, isThere, accountOf, lineOf, standsAt, waits, ownAccount, lined, withAccount}
 use Rattle.table.specs.TableChecks.{idGiven, accountThere, portKnown, notInLine, portOpen, notUsedUp, inLine, inFront}
 use Rattle.table.specs.Steps as Steps
-use Rattle.table.specs.Steps.{After, refused, replyRefused, done, enrolChecked, joinChecked, leaveChecked, turnChecked, renewChecked}
+use Rattle.table.specs.Steps.{After, refused, replyRefused, done, enrolChecked, joinChecked, leaveChecked, turnChecked}
 use Rattle.reached.specs.Calls.{Call, checkedAnswer, repliedAnswer, writtenAnswer, answer, after}
+use Rattle.reached.specs.Presented.{Presented, Presents, newValuesChecked, tableChecked, textChecked, presents}
+use Rattle.reached.specs.PresentedLaws.{call-presents}
 use Rattle.reached.specs.Equal.{accountsIn}
 use Rattle.reached.specs.Made.{Idle, Made}
 use Rattle.grounds.specs.Full.{settled-answer}
@@ -162,26 +164,22 @@ module _ (s : State) (none : accountsIn (s .rooms) ≡ 0) where
   unfolding Steps.challenge
   challenge-nobody port room = (written-refused _ (turnChecked port s) (inTurn port s) (turn-checks port) (turn-refuses port), refl)
 
-  pub reply-nobody : (port : ℕ) (text : List ℕ) → OnlyAnswers (Call.Reply port text) s (inTurn port s)
-  unfolding Steps.reply
-  reply-nobody port text =
-      replied-refused s (Steps.replyRead port text s) (turnChecked port s) (inTurn port s) (turn-checks port) (turn-refuses port)
-
-  renew-checks : (port number count : ℕ) (seed : List ℕ) → renewChecked port number count seed s ≡ inTurn port s
-  unfolding renewChecked
-  renew-checks port number count seed = go (turnChecked port s) (turn-checks port)
+  -- Reply and Renew, whatever is presented.
+  presented-checks : (port : ℕ) (what : Presented) → unless Checked.Refused (tableChecked port what s) (textChecked what) ≡ inTurn port s
+  presented-checks port what = go (turnChecked port s) (turn-checks port)
     where
       go : (turn : Checked) → turn ≡ inTurn port s
-          → inOrder (turn ∷ countWithin count ∷ algorithmChecked (numbered number) ∷ seedChecked seed ∷ seedOther seed (ownAccount port s) ∷ [])
-          ≡ inTurn port s
+          → unless Checked.Refused (unless Checked.Refused turn (newValuesChecked what (ownAccount port s))) (textChecked what) ≡ inTurn port s
       go Checked.Good e = absurd (turn-refuses port (sym e))
       go (Checked.Refused why) e = e
 
-  pub renew-nobody : (port number count : ℕ) (seed new text : List ℕ) → OnlyAnswers (Call.Renew port number count seed new text) s (inTurn port s)
-  unfolding Steps.renew
-  renew-nobody port number count seed new text =
-      replied-refused s (Steps.renewRead port number count seed new text s) (renewChecked port number count seed s) (inTurn port s)
-      (renew-checks port number count seed) (turn-refuses port)
+  pub presents-nobody : (port : ℕ) (what : Presented) (c : Call) → Presents port what c → OnlyAnswers c s (inTurn port s)
+  unfolding presents
+  presents-nobody port what c p =
+      let did = call-presents port what c s p in
+      let found = replied-refused s _ (unless Checked.Refused (tableChecked port what s) (textChecked what)) (inTurn port s) (presented-checks port what)
+      (turn-refuses port) in
+      (did .0 ∙ found .0, did .1 ∙ found .1)
 
 -- Leave, where a port may be in line.
 pub leave-answer : (port : ℕ) (s : State) → answer (Call.Leave port) s ≡ checkedAnswer (inOrder (portKnown port ∷ inLine port s ∷ []))

@@ -1,37 +1,41 @@
 -- What 61 and 62 change, and who is answered with them.
 use Prim.Native.Nat.{ℕ, _-_, _≤_}
 use native.Mathlib.Omega.{arith}
-use mathlib.Core.Path.{_≡_, refl, sym, ap, subst}
+use mathlib.Core.Path.{_≡_, refl, sym, ap, _∙_}
 use mathlib.Core.Bool.{Bool, true, false, true≢false, cond, not, _&&_, _||_}
-use mathlib.Core.List.{List, [], _∷_, map}
+use mathlib.Core.List.{List, [], _∷_, _++_, map}
 use borrow.Author.Tests.{eqb-true}
 use lib.Dec.{eqb, leb, ltb}
 use lib.ListN.{length}
 use Rattle.refusal.specs.declared.Refusal.{Refusal}
 use Rattle.refusal.specs.declared.Checked.{Checked}
-use Rattle.refusal.specs.declared.Reading.{Reading}
 use Rattle.refusal.specs.declared.Written.{Written}
 use Rattle.refusal.specs.Numbers.{listingOf}
-use Rattle.refusal.specs.Checks.{unless, inOrder}
-use Rattle.text.specs.Tests.{every, same}
+use Rattle.refusal.specs.Checks.{unless, inOrder, readChecked}
+use Rattle.text.specs.Tests.{every}
+use Rattle.text.specs.Scan.{tokens, unspaced}
 use Rattle.password.specs.PhraseAndSeed.{seedChecked}
 use Rattle.password.specs.Algorithm.{numbered}
 use Rattle.password.specs.Password.{bytesOf, hash}
 use Rattle.challenge.specs.Challenges.{challengeText, challengeWrittenBy}
-use Rattle.reply.specs.Reply.{readingOf}
+use Rattle.hex.specs.Hex.{sixteenDigits}
+use Rattle.reply.specs.Reply.{sixWords, readingOf}
+use Rattle.extended.specs.ReplyTypes.{isInit, isHex}
+use Rattle.extended.specs.ReplyTexts.{partAt, presentAt, newAt, colons}
 use Rattle.port.specs.Port.{wrongAnswer}
 use Rattle.accounts.specs.Rooms.{Room}
-use Rattle.accounts.specs.Accounts.{lowered, renewedRoom}
 use Rattle.table.specs.Table.{State, holds, isThere, accountOf, portOf, waits, ownAccount}
 use Rattle.table.specs.TableChecks.{accountThere}
 use Rattle.table.specs.Steps as Steps
-use Rattle.table.specs.Steps.{refused, replyRefused, done, enrolChecked, joinChecked, leaveChecked, turnChecked, renewChecked, offered, read}
-use Rattle.reached.specs.Calls.{Call, Answer, checkedAnswer, repliedAnswer, writtenAnswer, answer, after}
-use Rattle.reached.specs.Day.{Presents, WrongReply}
-use Rattle.grounds.specs.Listed.{isIn, readNumber}
-use Rattle.grounds.specs.Conditions.{Row, FirstHolds, replyRows}
-use Rattle.grounds.specs.Exactly.{first-at-most, number-bounds}
-use Rattle.grounds.specs.Refusing.{reply-exactly}
+use Rattle.table.specs.Steps.{refused, replyRefused, done, enrolChecked, joinChecked, leaveChecked, turnChecked, offered}
+use Rattle.reached.specs.Calls.{Call, Answer, checkedAnswer, repliedAnswer, writtenAnswer, answer}
+use Rattle.reached.specs.Presented.{Presented, Presents, inReply, tableChecked, textChecked, presentIn, nextOf, presents}
+use Rattle.reached.specs.PresentedLaws.{call-presents}
+use Rattle.reached.specs.Day.{WrongReply}
+use Rattle.grounds.specs.Listed.{isIn}
+use Rattle.grounds.specs.Conditions.{Row, wordRows, replyRows, isPlain, isType, typeOf, saidRows}
+use Rattle.grounds.specs.Exactly.{refused-at-most}
+use Rattle.grounds.specs.Refusing.{reply-rows, text-rows}
 use Rattle.grounds.specs.Never.{
   Test,
   test,
@@ -42,22 +46,39 @@ use Rattle.grounds.specs.Never.{
   Never,
   other-never,
   test-never,
+  then-never,
   seed-never,
   rows-never,
   turn-never,
-  renew-never,
+  table-never,
 }
 
-to-33 : (text : List ℕ) (n : ℕ) → FirstHolds n (replyRows text) → n ≤ 33
+-- The rows of a text have no number over 35.
+rows-to-35 : (text : List ℕ) → every (λ (row : Row). leb (row .0) 35) (saidRows (λ number count seed. []) text) ≡ true
 unfolding every
-to-33 text n first =
-    first-at-most 33 n (first .before) (first .after) (subst (λ (rows : List Row). every (λ (row : Row). leb (row .0) 33) rows ≡ true) (first .parted) refl)
+rows-to-35 text = go (isPlain text) (isInit (typeOf text)) (isHex (typeOf text))
+  where
+    part : Bool → List ℕ → List Row
+    part x p = cond x ((33, not (sixteenDigits (unspaced p))) ∷ []) (wordRows p ++ (33, not (sixWords (tokens p))) ∷ [])
 
--- What a text is refused with by its reader is 33 at most.
-pub reading-to-33 : (text : List ℕ) (why : Refusal) → readingOf text ≡ Reading.Refused why → listingOf why .0 ≤ 33
-reading-to-33 text why e =
-    let some = number-bounds why .0 in
-    to-33 text (listingOf why .0) (reply-exactly text .refused (listingOf why .0) (λ z. omega arith) .0 (ap readNumber e))
+    go : (p i x : Bool) → every (λ (row : Row). leb (row .0) 35)
+        ((30, not p && ltb 256 (length text)) ∷ (34, not p && not (isType (partAt text 0)))
+        ∷ (35, not p && not (eqb (colons text) (cond i 3 1)))
+        ∷ (cond (not p && i) [] [] ++ cond p (replyRows text) (cond i (part x (partAt text (newAt text))) [] ++ part x (partAt text (presentAt text))))) ≡ true
+    go true i x = refl
+    go false true true = refl
+    go false true false = refl
+    go false false true = refl
+    go false false false = refl
+
+-- So what the texts of a reply or a renewal are refused with is 35 at most.
+pub texts-to-35 : (port : ℕ) (what : Presented) (c : Call) → Presents port what c → (why : Refusal) → textChecked what ≡ Checked.Refused why
+    → listingOf why .0 ≤ 35
+unfolding every
+texts-to-35 port what c (Presents.by-reply text) why e =
+    refused-at-most (textChecked (inReply text)) (saidRows (λ number count seed. []) text) (text-rows text) 35 (rows-to-35 text) why e
+texts-to-35 port what c (Presents.by-renew number count seed new text) why e =
+    refused-at-most (readChecked (readingOf text)) (replyRows text) (reply-rows text) 35 refl why e
 
 from-61 : (n : ℕ) → isIn n (61 ∷ 62 ∷ []) ≡ true → 61 ≤ n
 from-61 n h = go (eqb n 61) (eqb n 62) refl refl h
@@ -79,11 +100,11 @@ module _ (why : Refusal) (wrong : isIn (listingOf why .0) (61 ∷ 62 ∷ []) ≡
   turn-other : (port : ℕ) (s : State) → Other (turnChecked port s)
   turn-other port s = turn-never (61 ∷ 62 ∷ []) why wrong port s refl
 
-  renew-other : (port number count : ℕ) (seed : List ℕ) (s : State) → Other (renewChecked port number count seed s)
-  renew-other port number count seed s = renew-never (61 ∷ 62 ∷ []) why wrong port number count seed s refl refl
+  table-other : (port : ℕ) (what : Presented) (s : State) → Other (tableChecked port what s)
+  table-other port what s = table-never (61 ∷ 62 ∷ []) why wrong port what s refl (λ number count seed. refl)
 
-  reading-other : (text : List ℕ) → readingOf text ≡ Reading.Refused why → ⊥
-  reading-other text e = omega (arith, from-61 (listingOf why .0) wrong, reading-to-33 text why e)
+  texts-other : (port : ℕ) (what : Presented) (c : Call) → Presents port what c → Other (textChecked what)
+  texts-other port what c p e = omega (arith, from-61 (listingOf why .0) wrong, texts-to-35 port what c p why e)
 
   settled-other : (s s′ : State) (check : Checked) → Other check → checkedAnswer (unless (refused s) check (done s′) .answer) ≡ Answer.Refused why → ⊥
   settled-other s s′ Checked.Good n e = let z : _≡_ {A = ℕ} 0 1 = cc in omega arith
@@ -93,7 +114,7 @@ module _ (why : Refusal) (wrong : isIn (listingOf why .0) (61 ∷ 62 ∷ []) ≡
   unfolding Steps.challenge challengeWrittenBy
   challenge-other port room s =
       let stored = ownAccount port s .seed in
-      let text = challengeText (ownAccount port s .algorithm) stored (ownAccount port s .count - 1) in
+      let text = challengeText true (ownAccount port s .algorithm) stored (ownAccount port s .count - 1) in
       go (turnChecked port s) (turn-other port s) (seedChecked stored) (seed-never (61 ∷ 62 ∷ []) why wrong stored refl refl)
       (ltb 9999 (ownAccount port s .count - 1)) (leb (length text) room) (length text)
     where
@@ -126,26 +147,30 @@ module _ (why : Refusal) (wrong : isIn (listingOf why .0) (61 ∷ 62 ∷ []) ≡
       go true e = let z : _≡_ {A = ℕ} 0 1 = cc in absurd (omega arith)
       go false e = (cc, refl)
 
-  replied-wrong : (port : ℕ) (s : State) (check : Checked) → Other check → (text : List ℕ) (next : ℕ → Room)
-      → repliedAnswer (unless (replyRefused s) check (read s (readingOf text) (λ w. offered port w (next w) s)) .answer) ≡ Answer.Refused why
-      → Rejected port s (unless (replyRefused s) check (read s (readingOf text) (λ w. offered port w (next w) s)) .state)
-  replied-wrong port s check n text next = go check (readingOf text) n (reading-other text)
+  presents-wrong : (port : ℕ) (what : Presented) (s : State) → Other (textChecked what)
+      → repliedAnswer (presents port what s .answer) ≡ Answer.Refused why → Rejected port s (presents port what s .state)
+  unfolding presents
+  presents-wrong port what s n =
+      go (unless Checked.Refused (tableChecked port what s) (textChecked what))
+      (then-never (61 ∷ 62 ∷ []) why wrong (tableChecked port what s) (textChecked what) (table-other port what s) n)
     where
-      go : (k : Checked) (r : Reading) → Other k → (r ≡ Reading.Refused why → ⊥)
-          → repliedAnswer (unless (replyRefused s) k (read s r (λ w. offered port w (next w) s)) .answer) ≡ Answer.Refused why
-          → Rejected port s (unless (replyRefused s) k (read s r (λ w. offered port w (next w) s)) .state)
-      go (Checked.Refused v) r n m e = let same : v ≡ why = cc in absurd (n (ap Checked.Refused same))
-      go Checked.Good (Reading.Refused v) n m e = let same : v ≡ why = cc in absurd (m (ap Reading.Refused same))
-      go Checked.Good (Reading.Password w) n m e = offered-wrong port w (next w) s e
+      go : (k : Checked) → Other k
+          → repliedAnswer (unless (replyRefused s) k (offered port (presentIn what) (nextOf what (ownAccount port s)) s) .answer) ≡ Answer.Refused why
+          → Rejected port s (unless (replyRefused s) k (offered port (presentIn what) (nextOf what (ownAccount port s)) s) .state)
+      go (Checked.Refused v) n e = let same : v ≡ why = cc in absurd (n (ap Checked.Refused same))
+      go Checked.Good n e = offered-wrong port (presentIn what) (nextOf what (ownAccount port s)) s e
 
   -- ---- every call
 
-  wrong-at : (port : ℕ) (c : Call) (s : State) → Presents port c → Rejected port s (after c s) → WrongReply why c s
+  wrong-at : (port : ℕ) (what : Presented) (c : Call) (s : State) → Presents port what c → answer c s ≡ Answer.Refused why → WrongReply why c s
   unfolding Rejected
-  wrong-at port c s p r = record { port = port; presented = p; answered = r .0; changed = r .1 }
+  wrong-at port what c s p e =
+      let did = call-presents port what c s p in
+      let wrongly = presents-wrong port what s (texts-other port what c p) (sym (did .0) ∙ e) in
+      record { port = port; what = what; presented = p; answered = wrongly .0; changed = did .1 ∙ wrongly .1 }
 
   pub wrong-reply : (c : Call) (s : State) → answer c s ≡ Answer.Refused why → WrongReply why c s
-  unfolding Steps.enrol Steps.remove Steps.join Steps.leave Steps.reply Steps.replyRead Steps.renew Steps.renewRead enrolChecked joinChecked leaveChecked
+  unfolding Steps.enrol Steps.remove Steps.join Steps.leave enrolChecked joinChecked leaveChecked
   wrong-reply (Call.Enrol id number count seed password) s e =
       absurd (settled-other s _ (enrolChecked id number count seed s)
       (checks-other (test (not (eqb id 0)) Refusal.IdZero ∷ test (leb 2 count && leb count 9999) Refusal.CountOutside
@@ -161,11 +186,6 @@ module _ (why : Refusal) (wrong : isIn (listingOf why .0) (61 ∷ 62 ∷ []) ≡
       absurd (settled-other s _ (leaveChecked port s)
       (checks-other (test (leb port 3) Refusal.PortUnknown ∷ test (waits port s) Refusal.PortNotInLine ∷ []) refl) e)
   wrong-reply (Call.Challenge port room) s e = absurd (challenge-other port room s e)
-  wrong-reply (Call.Reply port text) s e =
-      wrong-at port _ s (Presents.by-reply text)
-      (replied-wrong port s (turnChecked port s) (turn-other port s) text (lowered (ownAccount port s)) e)
-  wrong-reply (Call.Renew port number count seed new text) s e =
-      wrong-at port _ s (Presents.by-renew number count seed new text)
-      (replied-wrong port s (renewChecked port number count seed s) (renew-other port number count seed s) text
-      (λ w. renewedRoom (ownAccount port s) number count seed new) e)
+  wrong-reply (Call.Reply port text) s e = wrong-at port _ _ s (Presents.by-reply text) e
+  wrong-reply (Call.Renew port number count seed new text) s e = wrong-at port _ _ s (Presents.by-renew number count seed new text) e
   wrong-reply Call.Tick s e = let z : _≡_ {A = ℕ} 0 1 = cc in absurd (omega arith)

@@ -1,5 +1,5 @@
 // The login table's eight calls, by the names of document 01, 'Table, ports and turns'. A table goes in by value and comes
-// back beside the answer. Renew is lent the accounts' older seeds too: 3,808 bytes that a controller keeps with its table and changes in no other
+// back beside the answer. Reply and Renew are lent the accounts' older seeds too: 3,808 bytes that a controller keeps with its table and changes in no other
 // way. The modules are public so that `determined` can speak of the calls' promises.
 
 // Enrol and Remove.

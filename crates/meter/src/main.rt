@@ -114,21 +114,22 @@ fn four_lines(table: Table) -> Table {
 }
 
 // The port joins and types a wrong password.
-fn mistyped(table: Table, port: u8, id: u16) -> Table {
+fn mistyped(table: Table, older: &mut [u8; 3808], port: u8, id: u16) -> Table {
     let joined = login::join(table, port, id).table;
-    login::reply(joined, port, b"0000000000000000").table
+    login::reply(joined, older, port, b"0000000000000000").table
 }
 
-// The third wrong reply in a row shuts the port.
+// The third wrong reply in a row shuts the port. A wrong reply leaves the older seeds as they are.
 fn shut(table: Table, port: u8, id: u16) -> Table {
-    let first = mistyped(table, port, id);
-    let second = mistyped(first, port, id);
-    mistyped(second, port, id)
+    let mut older = [0u8; 3808];
+    let first = mistyped(table, &mut older, port, id);
+    let second = mistyped(first, &mut older, port, id);
+    mistyped(second, &mut older, port, id)
 }
 
 // The table that a call finds: port 0 in front of three others; for Join without port 0; for the ticks of the letter u with the three shut; for
-// those of the letter f, and for leaving by the letter m, each port in a line of its own, in the latter since a tick; for renewing by the letter o
-// the account remembers eight seeds.
+// those of the letter f, and for leaving by the letter m, each port in a line of its own, in the latter since a tick; for renewing by the letters o
+// and y the account remembers eight seeds.
 fn prepared(call: u8, table: Table, id: u16) -> Table {
     match call {
         b'e' | b'i' => table,
@@ -141,7 +142,7 @@ fn prepared(call: u8, table: Table, id: u16) -> Table {
             let three = shut(two, 3, id);
             login::join(three, 0, id).table
         }
-        b'o' => all_join(with_eight(table, id), id),
+        b'o' | b'y' => all_join(with_eight(table, id), id),
         _ => all_join(table, id),
     }
 }
@@ -151,7 +152,7 @@ fn is_tick(call: u8) -> bool {
 }
 
 fn is_renewal(call: u8) -> bool {
-    (call == b'n') | (call == b'o')
+    (call == b'n') | (call == b'o') | (call == b'y')
 }
 
 // Each call stands here itself: behind a function of the meter's own the compiler would copy the table once more, in other calls too.
@@ -164,10 +165,17 @@ fn once(call: u8, table: Table, older: &mut [u8; 3808], port: u8, id: u16) -> Ta
         b'j' => login::join(table, port, id).table,
         b'l' | b'm' => login::leave(table, port).table,
         b'c' => challenged(table, port),
-        b'h' => login::reply(table, port, text).table,
-        b'w' => login::reply(table, port, b"FOWL KID MASH DEAD DUAL OAF").table,
-        b'H' => login::reply(table, port, b"C891 F389 B68D E9EC").table,
-        b'W' => login::reply(table, port, b"ONCE GRAB SOOT CUBE SLAY WAIT").table,
+        b'h' => login::reply(table, older, port, text).table,
+        b'w' => login::reply(table, older, port, b"FOWL KID MASH DEAD DUAL OAF").table,
+        b'g' => login::reply(table, older, port, b"hex:85c43ee03857765b").table,
+        b'y' => login::reply(
+            table,
+            older,
+            port,
+            b"init-word:FOWL KID MASH DEAD DUAL OAF:md5 99 dog2dog2dog2dog2:FOWL KID MASH DEAD DUAL OAF",
+        ).table,
+        b'H' => login::reply(table, older, port, b"C891 F389 B68D E9EC").table,
+        b'W' => login::reply(table, older, port, b"ONCE GRAB SOOT CUBE SLAY WAIT").table,
         b'n' => login::renew(table, older, port, 1, 99, b"dog2", &stored, text).table,
         b'o' => login::renew(
             table,

@@ -76,13 +76,14 @@ pub extern "C" fn painted_reply(
     stored: u64,
     port: u8,
     text: &[u8],
+    older: &mut [u8; 3808],
 ) -> u32 {
     let mut table = full(room, algorithm, stored);
     table.rooms[(room % 32) as usize] = account(2, algorithm, stored);
     let mut number = 0;
     let mut k = 0;
     while k < times {
-        let made = login::reply(table, port, text);
+        let made = login::reply(table, older, port, text);
         let answer = made.answer;
         number = number_of(answer);
         table = made.table;

@@ -23,6 +23,7 @@ challengeRow c = record {
   used = challengeNumbers c .5;
   count = challengeNumbers c .2;
   algorithm = challengeNumbers c .1;
+  ext = challengeNumbers c .6;
   refusal = challengeNumbers c .0 .0;
 }
 

@@ -5,6 +5,7 @@ ghost use Rattle.cards.specs.Cards.{cardOf, cardWritten};
 ghost use Rattle.challenge.specs.Challenges.{challengeOf, textByNumber, challengeWritten};
 ghost use Rattle.digests.specs.Md5.{md5};
 ghost use Rattle.digests.specs.Sha1.{sha1};
+ghost use Rattle.extended.specs.ReplyWriting.{extendedWritten, textByNumbers};
 ghost use Rattle.hex.specs.Hex.{hexOf};
 ghost use Rattle.panel.specs.Answers.{challengeRow, readingRow, Reported};
 ghost use Rattle.password.specs.Password.{generated, numberOf, bytesOf};
@@ -53,7 +54,7 @@ pub extern "C" fn lift_password(
     reading_row(generator::generate(algorithm, phrase, seed, count))
 }
 
-// Replies: reading one, writing one as hex or as words, and a password's eight bytes.
+// Replies: reading a plain one, writing one as hex, as words or as an extended reply, and a password's eight bytes.
 
 #[no_mangle]
 pub extern "C" fn lift_read_reply(text: &[u8]) -> LiftReading
@@ -74,6 +75,31 @@ pub extern "C" fn lift_write_words(password: u64, buf: &mut [u8]) -> LiftWritten
     ensures { λ r. ⌜ Reported (writtenOf (length (now (buf .entry))) (wordsOf password)) (wordsOf password) (now (buf .entry)) (now (buf .exit)) r ⌝ }
 {
     written_row(sixwords::spelling::write_words(password, buf))
+}
+
+// By the type's number: 1 hex, 2 word, 3 init-hex, 4 init-word. With the first two what belongs to a renewal isn't looked at.
+#[no_mangle]
+pub extern "C" fn lift_write_extended(
+    kind: u32,
+    password: u64,
+    algorithm: u32,
+    count: u32,
+    seed: &[u8],
+    new_password: u64,
+    buf: &mut [u8],
+) -> LiftWritten
+    ensures { λ r. ⌜ Reported (extendedWritten kind password algorithm count (now (seed .entry)) «new_password» (length (now (buf .entry))))
+        (textByNumbers kind password algorithm count (now (seed .entry)) «new_password») (now (buf .entry)) (now (buf .exit)) r ⌝ }
+{
+    written_row(extended::reply_writer::write(
+        kind,
+        password,
+        algorithm,
+        count,
+        seed,
+        new_password,
+        buf,
+    ))
 }
 
 #[no_mangle]

@@ -1,5 +1,6 @@
 // Answers as C sees them: `refusal` is 0 or the paper's number, and the values are 0 beside a refusal.
 ghost use mathlib.Core.Path.{_≡_};
+ghost use mathlib.Core.Bool.{cond};
 ghost use Rattle.panel.specs.Answers.{challengeRow, readingRow, writtenRow};
 use challenge::reading::Challenge;
 use password::algorithm::number_of;
@@ -21,6 +22,7 @@ pub struct LiftChallenge {
     pub used: usize,
     pub count: u32,
     pub algorithm: u32, // by its number
+    pub ext: u32, // 1 with the mark, else 0
     pub refusal: u32,
 }
 
@@ -65,6 +67,13 @@ pub fn written_row(written: Written) -> LiftWritten
     }
 }
 
+// 1 for yes.
+fn flag(set: bool) -> u32
+    ensures { λ r. ⌜ r ≡ cond set 1 0 ⌝ }
+{
+    if set { 1 } else { 0 }
+}
+
 pub fn challenge_row(challenge: Challenge) -> LiftChallenge
     ensures { λ r. ⌜ r ≡ challengeRow challenge ⌝ }
 {
@@ -75,12 +84,14 @@ pub fn challenge_row(challenge: Challenge) -> LiftChallenge
             start,
             len,
             used,
+            ext,
         } => LiftChallenge {
             seed_at: start,
             seed_len: len,
             used,
             count,
             algorithm: number_of(algorithm),
+            ext: flag(ext),
             refusal: 0,
         },
         Challenge::Refused(why) => LiftChallenge {
@@ -89,6 +100,7 @@ pub fn challenge_row(challenge: Challenge) -> LiftChallenge
             used: 0,
             count: 0,
             algorithm: 0,
+            ext: 0,
             refusal: listing_of(why).0,
         },
     }

@@ -1,7 +1,10 @@
 -- An algorithm by its number and by its name.
 use Prim.Native.Nat.{ℕ}
-use mathlib.Core.Path.{_≡_, refl, sym, ap}
+use mathlib.Core.Path.{_≡_, refl, sym, _∙_, ap}
+use mathlib.Core.Bool.{Bool, true, false, cond}
 use native.Mathlib.Omega.{arith}
+use lib.Dec.{eqb}
+use borrow.Author.Tests.{eqb-true}
 use Rattle.refusal.specs.declared.Checked.{Checked}
 use Rattle.refusal.specs.declared.Refusal.{Refusal}
 use Rattle.refusal.specs.Checks.{unless}
@@ -14,6 +17,16 @@ use Rattle.password.specs.Algorithm.{algorithmNumber, algorithmName, num
 pub number-numbered : (algorithm : Algorithm) → numbered (algorithmNumber algorithm) ≡ Named.Is algorithm
 number-numbered Algorithm.Md5 = refl
 number-numbered Algorithm.Sha1 = refl
+
+-- a number that an algorithm has is that algorithm's
+pub numbered-number : (number : ℕ) (algorithm : Algorithm) → numbered number ≡ Named.Is algorithm → algorithmNumber algorithm ≡ number
+numbered-number number algorithm = by (eqb number 1) (eqb number 2) refl refl
+  where
+    by : (a b : Bool) → eqb number 1 ≡ a → eqb number 2 ≡ b
+        → cond a (Named.Is Algorithm.Md5) (cond b (Named.Is Algorithm.Sha1) Named.Unknown) ≡ Named.Is algorithm → algorithmNumber algorithm ≡ number
+    by true b f g e = let same : Algorithm.Md5 ≡ algorithm = cc in ap algorithmNumber (sym same) ∙ sym (eqb-true number 1 f)
+    by false true f g e = let same : Algorithm.Sha1 ≡ algorithm = cc in ap algorithmNumber (sym same) ∙ sym (eqb-true number 2 g)
+    by false false f g e = let z : _≡_ {A = ℕ} 0 1 = cc in absurd (omega arith)
 
 pub name-named : (algorithm : Algorithm) → named (algorithmName algorithm) ≡ Named.Is algorithm
 unfolding algorithmName codes same

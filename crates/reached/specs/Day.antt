@@ -2,12 +2,13 @@
 -- and a wrong reply.
 use Prim.Native.Nat.{ℕ, _+_, _<_}
 use mathlib.Core.Path.{_≡_}
-use mathlib.Core.Bool.{false}
-use mathlib.Core.List.{List, map}
+use mathlib.Core.Bool.{true, false}
+use mathlib.Core.List.{List, [], _∷_, map}
 use lib.ListN.{length, take}
 use Rattle.refusal.specs.declared.Refusal.{Refusal}
 use Rattle.refusal.specs.declared.Reading.{Reading}
 use Rattle.refusal.specs.declared.Written.{Written}
+use Rattle.refusal.specs.Each.{Each}
 use Rattle.text.specs.Kinds.{lowerOf}
 use Rattle.text.specs.Put.{leaves}
 use Rattle.password.specs.declared.algorithm.Algorithm.{Algorithm}
@@ -17,8 +18,11 @@ use Rattle.password.specs.Password.{bytesOf, hash, password, generated}
 use Rattle.challenge.specs.declared.reading.Challenge.{Challenge}
 use Rattle.challenge.specs.Challenges.{challengeOf, seedOf}
 use Rattle.hex.specs.Hex.{hexOf}
-use Rattle.reply.specs.Reply.{readingOf}
 use Rattle.sixwords.specs.Spelling.{wordsOf}
+use Rattle.extended.specs.declared.reply_types.ReplyType.{ReplyType}
+use Rattle.extended.specs.declared.reply_texts.ReplyText.{ReplyText}
+use Rattle.extended.specs.ReplyTexts.{replyTextOf}
+use Rattle.extended.specs.ReplyWriting.{loginText}
 use Rattle.port.specs.Port.{wrongly, wrongAnswer}
 use Rattle.table.specs.declared.Replied.{Replied}
 use Rattle.accounts.specs.Rooms.{Room, remembered}
@@ -27,8 +31,9 @@ use Rattle.table.specs.Table.{State, roomAt, accountOf, portOf, standsAt, withP
 use Rattle.table.specs.Steps as steps
 use Rattle.table.specs.Steps.{challengeFor, challenge, reply}
 use Rattle.reached.specs.Calls.{Call, after}
+use Rattle.reached.specs.Presented.{Presented, Presents}
 
--- The account after an accepted reply, beside the one before: the same id, algorithm, seed and older seeds, the count lower by 1, and the
+-- The account after an accepted reply that is no renewal, beside the one before: the same id, algorithm, seed and older seeds, the count lower by 1, and the
 -- password whose hash is the one that was stored.
 pub record SteppedDown (old new : Room) : Type 0 where
   pub same-id : new .id ≡ old .id
@@ -38,16 +43,16 @@ pub record SteppedDown (old new : Room) : Type 0 where
   pub count-lower : new .count + 1 ≡ old .count
   pub old-is-hash : old .password ≡ hash (old .algorithm) (bytesOf (new .password))
 
--- The account after an accepted renewal with this text, beside the one before: the same id, with the algorithm of that number, the new count,
--- which isn't used up, the new seed and password. R-5: the seed is none of those that were remembered, and the first seven of these are the
--- older ones then. What the text was read as has the stored password as its hash, by the algorithm that the account had.
-pub record Renewed (number count : ℕ) (seed new text : List ℕ) (old room : Room) : Type 0 where
+-- The account after an accepted renewal, beside the one before: the same id, with the algorithm of that number, the new count, which isn't used up,
+-- the new seed and password. R-5: the seed is none of those that were remembered, and the first seven of these are the older ones then. What was
+-- presented, as its text was read, has the stored password as its hash, by the algorithm that the account had.
+pub record Renewed (number count : ℕ) (seed : List ℕ) (new : ℕ) (present : Reading) (old room : Room) : Type 0 where
   pub becomes : room ≡ renewedRoom old number count seed new
   pub known : numbered number ≡ Named.Is (room .algorithm)
   pub other : isOneOf (map lowerOf seed) (remembered old) ≡ false
   pub unused : 1 < room .count
   pub presented : ℕ
-  pub read : readingOf text ≡ Reading.Password presented
+  pub read : present ≡ Reading.Password presented
   pub old-is-hash : old .password ≡ hash (old .algorithm) (bytesOf presented)
 
 -- The account that the port waits for in the table s, as the table t has it.
@@ -71,9 +76,14 @@ pub record Accepts (p i : ℕ) (text : List ℕ) (count new : ℕ) (s : State) :
     password = new;
   }
 
--- Challenge, in the table s, writes a text into the buffer; read, it gives an algorithm, a count and a seed; with them and the pass-phrase
--- the generator gives a password; and the reply with it, in hex or in words, is accepted in the table t, the same or a later one. The
--- algorithm is the account's own, the count is the stored one less 1, and the account has then what the pass-phrase gives at it.
+-- "the generator's reply .., in hex or words", plain; and R-6's of the types `hex` and `word`.
+abbrev pub repliesOf : ℕ → List (List ℕ)
+repliesOf p = hexOf p ∷ wordsOf p ∷ loginText ReplyType.Hex p ∷ loginText ReplyType.Word p ∷ []
+
+-- Challenge, in the table s, writes a text into the buffer; read, it gives an algorithm, a count and a seed, and has R-6's mark; with them and the
+-- pass-phrase the generator gives a password; and a reply that says it is accepted in the table t, the same or a later one, such as in hex or in
+-- words, plain or extended. The algorithm is the account's own, the count is the stored one less 1, and the account has then what the pass-phrase
+-- gives at it.
 pub record Day (p i : ℕ) (phrase buffer : List ℕ) (s t : State) : Type 0 where
   pub written : ℕ
   pub algorithm : Algorithm
@@ -83,25 +93,22 @@ pub record Day (p i : ℕ) (phrase buffer : List ℕ) (s t : State) : Type 0 whe
   pub used : ℕ
   pub generated-as : ℕ
   pub challenge-written : challenge p (length buffer) s ≡ Written.Wrote written
-  pub challenge-read : challengeOf (take written (leaves (Written.Wrote written) (challengeFor p s) buffer)) ≡ Challenge.Read algorithm count start len used
+  pub challenge-read : challengeOf (take written (leaves (Written.Wrote written) (challengeFor p s) buffer))
+      ≡ Challenge.Read algorithm count start len used true
   pub password-generated :
       generated (algorithmNumber algorithm) phrase (seedOf (take written (leaves (Written.Wrote written) (challengeFor p s) buffer))) count
       ≡ Reading.Password generated-as
   pub algorithm-own : algorithm ≡ accountOf i s .algorithm
   pub count-less : count + 1 ≡ accountOf i s .count
   pub generated-is : generated-as ≡ passwordOf phrase (accountOf i s) count
-  pub hex-accepted : Accepts p i (hexOf generated-as) count generated-as t
-  pub words-accepted : Accepts p i (wordsOf generated-as) count generated-as t
-
--- The port presents a password with the call.
-pub data Presents (port : ℕ) : Call → Type 0 where
-  by-reply : (text : List ℕ) → Presents port (Call.Reply port text)
-  by-renew : (number count : ℕ) (seed new text : List ℕ) → Presents port (Call.Renew port number count seed new text)
+  pub says-accepted : (text : List ℕ) → replyTextOf text ≡ ReplyText.Login (Reading.Password generated-as) → Accepts p i text count generated-as t
+  pub each-accepted : Each (λ (text : List ℕ). Accepts p i text count generated-as t) (repliesOf generated-as)
 
 -- A wrong reply, which is answered with that refusal: 61, or 62 at the third in a row. It changes the port's own record, and the port leaves;
 -- the accounts and the other ports' records are as they were.
 pub record WrongReply (why : Refusal) (c : Call) (s : State) : Type 0 where
   pub port : ℕ
-  pub presented : Presents port c
+  pub what : Presented
+  pub presented : Presents port what c
   pub answered : why ≡ wrongAnswer (portOf port s)
   pub changed : after c s ≡ steps.leaves port (withPort port (wrongly (portOf port s)) s)

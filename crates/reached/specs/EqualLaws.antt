@@ -11,24 +11,22 @@ use lib.Dec.{eqb, ltb}
 use lib.ListN.{length, getD, set, List·getD-eq-default}
 use Rattle.refusal.specs.declared.Refusal.{Refusal}
 use Rattle.refusal.specs.declared.Checked.{Checked}
-use Rattle.refusal.specs.declared.Reading.{Reading}
 use Rattle.refusal.specs.declared.Written.{Written}
 use Rattle.refusal.specs.Checks.{must, unless, inOrder}
 use Rattle.refusal.specs.Each.{each-get}
-use Rattle.refusal.specs.Laws.{must-good}
+use Rattle.refusal.specs.Laws.{must-good, both-good}
 use Rattle.text.specs.Tests.{both}
 use Rattle.password.specs.PhraseAndSeed.{seedChecked}
 use Rattle.password.specs.Algorithm.{numbered, algorithmChecked}
 use Rattle.password.specs.Password.{hash, bytesOf}
 use Rattle.challenge.specs.Challenges.{challengeWrittenBy}
-use Rattle.reply.specs.Reply.{readingOf}
 use Rattle.line.specs.Line as Line
 use Rattle.line.specs.Line.{Waiting, standsIn, frontOf, joined, left, ticked}
 use Rattle.port.specs.declared.Port.{Port}
 use Rattle.port.specs.Port.{wrongAnswer}
 use Rattle.table.specs.declared.Replied.{Replied}
 use Rattle.accounts.specs.Rooms.{Room}
-use Rattle.accounts.specs.Accounts.{countWithin, newRoom, renewedRoom, lowered, seedOther}
+use Rattle.accounts.specs.Accounts.{countWithin, newRoom}
 use Rattle.table.specs.Table.{
   State,
   Held,
@@ -49,9 +47,11 @@ use Rattle.table.specs.Table.{
 }
 use Rattle.table.specs.TableChecks.{idGiven, accountHeld, portKnown, portOpen, notUsedUp}
 use Rattle.table.specs.Steps as steps
-use Rattle.table.specs.Steps.{enrolChecked, joinChecked, leaveChecked, turnChecked, renewChecked}
-use Rattle.table.specs.StepLaws.{enrol-passed, renew-passed}
+use Rattle.table.specs.Steps.{enrolChecked, joinChecked, leaveChecked, turnChecked}
+use Rattle.table.specs.StepLaws.{enrol-passed}
 use Rattle.reached.specs.Made.{Idle}
+use Rattle.reached.specs.Presented.{Presented, inReply, inRenew, newValuesChecked, tableChecked, textChecked, presentIn, nextOf, presents}
+use Rattle.reached.specs.PresentedLaws.{next-id, reply-presents, renew-presents}
 use Rattle.reached.specs.Equal.{accountBy, SameAccounts, Equal, Alike, times, Housed}
 use Rattle.reached.specs.RoomsFound.{
   holds-times,
@@ -230,11 +230,10 @@ module _ (P : List Port) (l m : List Held) (h : SameAccounts l m) (a : Housed (t
       ∷ must (isFront port (frontOf (own .line))) Refusal.PortNotInFront ∷ accountHeld (own .account) ∷ notUsedUp (own .account) ∷ []))
       (waits-same port) (room-same port)
 
-  renew-check : (port number count : ℕ) (seed : List ℕ) → renewChecked port number count seed s ≡ renewChecked port number count seed t
-  unfolding renewChecked
-  renew-check port number count seed =
-      ap₂ (λ (k : Checked) (own : Held). inOrder (k ∷ countWithin count ∷ algorithmChecked (numbered number) ∷ seedChecked seed
-      ∷ seedOther seed (own .account) ∷ []))
+  presents-check : (port : ℕ) (what : Presented)
+      → unless Checked.Refused (tableChecked port what s) (textChecked what) ≡ unless Checked.Refused (tableChecked port what t) (textChecked what)
+  presents-check port what =
+      ap₂ (λ (k : Checked) (own : Held). unless Checked.Refused (unless Checked.Refused k (newValuesChecked what (own .account))) (textChecked what))
       (turn-check port) (room-same port)
 
   -- ---- what is set
@@ -323,7 +322,7 @@ module _ (P : List Port) (l m : List Held) (h : SameAccounts l m) (a : Housed (t
   unfolding steps.challenge
   challenge-same port room =
       ap₂ (λ (k : Checked) (own : Held). unless Written.Refused k
-      (challengeWrittenBy (own .account .algorithm) (own .account .seed) (own .account .count - 1) room))
+      (challengeWrittenBy true (own .account .algorithm) (own .account .seed) (own .account .count - 1) room))
       (turn-check port) (room-same port)
 
   pub tick-equal : Equal (steps.tick s) (steps.tick t)
@@ -364,33 +363,26 @@ module _ (P : List Port) (l m : List Held) (h : SameAccounts l m) (a : Housed (t
       by true = alike (Replied.Accepted (next .count)) _ _ _ (lined-same (left port) _ _ put)
       by false = alike (Replied.Refused (wrongAnswer (portOf port s))) _ _ _ (lined-same (left port) l m h)
 
-  -- What is done with a text, where the account that comes of a password is made from the present one.
-  read-alike : (port : ℕ) (text : List ℕ) (next : Room → ℕ → Room) → TurnGood port s
-      → ((room : Room) (password : ℕ) → next room password .id ≡ room .id)
-      → Alike (steps.read s (readingOf text) (λ p. steps.offered port p (next (ownAccount port s) p) s))
-      (steps.read t (readingOf text) (λ p. steps.offered port p (next (ownAccount port t) p) t))
-  read-alike port text next g keeps = by (readingOf text)
-    where
-      by : (r : Reading)
-          → Alike (steps.read s r (λ p. steps.offered port p (next (ownAccount port s) p) s))
-          (steps.read t r (λ p. steps.offered port p (next (ownAccount port t) p) t))
-      by (Reading.Password p) =
-          subst (λ (x : Held). Alike (steps.offered port p (next (ownAccount port s) p) s) (steps.offered port p (next (x .account) p) t))
-          (room-same port) (offered-alike port p (next (ownAccount port s) p) g (keeps (ownAccount port s) p))
-      by (Reading.Refused why) = alike (Replied.Refused why) P l m h
+  -- What is presented: the account that comes of it is made from the present one.
+  presents-alike : (port : ℕ) (what : Presented) → Alike (presents port what s) (presents port what t)
+  unfolding presents
+  presents-alike port what =
+      checked-alike Replied.Refused _ _ (presents-check port what) _ _
+      (λ e.
+      let passed = both-good (tableChecked port what s) (textChecked what) e in
+      let g = turn-good port s (both-good (turnChecked port s) (newValuesChecked what (ownAccount port s)) (passed .0) .0) in
+      subst (λ (x : Held). Alike (steps.offered port (presentIn what) (nextOf what (ownAccount port s)) s)
+      (steps.offered port (presentIn what) (nextOf what (x .account)) t))
+      (room-same port) (offered-alike port (presentIn what) (nextOf what (ownAccount port s)) g (next-id what (ownAccount port s))))
 
   pub reply-alike : (port : ℕ) (text : List ℕ) → Alike (steps.reply port text s) (steps.reply port text t)
-  unfolding steps.reply steps.replyRead
-  reply-alike port text =
-      checked-alike Replied.Refused _ _ (turn-check port) _ _ (λ e. read-alike port text lowered (turn-good port s e) (λ room password. refl))
+  reply-alike port text = rw (reply-presents port text s, reply-presents port text t) (presents-alike port (inReply text))
 
   pub renew-alike : (port number count : ℕ) (seed new text : List ℕ)
       → Alike (steps.renew port number count seed new text s) (steps.renew port number count seed new text t)
-  unfolding steps.renew steps.renewRead
   renew-alike port number count seed new text =
-      checked-alike Replied.Refused _ _ (renew-check port number count seed) _ _
-      (λ e. read-alike port text (λ room password. renewedRoom room number count seed new)
-      (turn-good port s (renew-passed port number count seed s e .turn)) (λ room password. refl))
+      rw (renew-presents port number count seed new text s, renew-presents port number count seed new text t)
+      (presents-alike port (inRenew number count seed new text))
 
   pub remove-alike : (id : ℕ) → Alike (steps.remove id s) (steps.remove id t)
   unfolding steps.remove

@@ -7,6 +7,7 @@ use lib.Dec.{eqb}
 use Rattle.line.specs.Line.{standsIn, frontOf}
 use Rattle.table.specs.Table.{State, fresh, lineOf, isFront}
 use Rattle.reached.specs.Calls.{Call, after, run}
+use Rattle.reached.specs.Presented.{inReply, renews}
 
 -- "From a fresh table, after any calls": the table s is one that calls make.
 pub record Reached (s : State) : Type 0 where
@@ -40,14 +41,14 @@ quiet p i (Call.Reply port text) = not (eqb port p)
 quiet p i (Call.Renew port number count seed password text) = not (eqb port p)
 quiet p i Call.Tick = true
 
--- R-1, "an account keeps its algorithm, and renewal may change it": the call is no renewal, and does not remove the account i.
+-- R-1, "an account keeps its algorithm, and renewal may change it": the call is no renewal, by Renew or by Reply, and does not remove the account i.
 abbrev pub keepsAlgorithm : ℕ → Call → Bool
 keepsAlgorithm i (Call.Enrol id number count seed password) = true
 keepsAlgorithm i (Call.Remove id) = not (eqb id i)
 keepsAlgorithm i (Call.Join port id) = true
 keepsAlgorithm i (Call.Leave port) = true
 keepsAlgorithm i (Call.Challenge port room) = true
-keepsAlgorithm i (Call.Reply port text) = true
+keepsAlgorithm i (Call.Reply port text) = not (renews (inReply text))
 keepsAlgorithm i (Call.Renew port number count seed password text) = false
 keepsAlgorithm i Call.Tick = true
 

@@ -1,6 +1,8 @@
 -- Runs of calls, equal tables, and the laws of the tables that calls make: what is found in their rooms and lines, what a call can do to them, what stays.
--- Made, InTurn, Day and SeedsHad have the words of the demands on tables.
+-- Made, Presented, InTurn, Day and SeedsHad have the words of the demands on tables.
 pub mod Calls
+pub mod Presented
+pub mod PresentedLaws
 pub mod Equal
 pub mod RoomsFound
 pub mod RoomsChanged

@@ -1,22 +1,21 @@
 -- What any call can do to any table: one of eight outcomes, with what the call's checks have established.
 use Prim.Native.Nat.{ℕ, _+_, _≤_, _<_}
 use native.Mathlib.Omega.{arith}
-use mathlib.Core.Path.{_≡_, refl}
-use mathlib.Core.Bool.{Bool, true, false, false≢true, cond, _&&_, _||_}
+use mathlib.Core.Path.{_≡_, refl, sym, _∙_, subst}
+use mathlib.Core.Bool.{Bool, true, false, true≢false, false≢true, cond, _&&_, _||_}
 use mathlib.Core.List.{List, [], _∷_, map}
 use borrow.Author.Tests.{eqb-true, eqb-false, ltb-true, leb-true, le-leb, not-true}
 use lib.Dec.{eqb, leb}
 use lib.ListN.{length, take, length-map, length-take}
 use Rattle.refusal.specs.declared.Refusal.{Refusal}
 use Rattle.refusal.specs.declared.Checked.{Checked}
-use Rattle.refusal.specs.declared.Reading.{Reading}
+use Rattle.refusal.specs.Numbers.{passwordIn}
 use Rattle.refusal.specs.Checks.{unless}
 use Rattle.text.specs.Kinds.{isUpper, isLower, isLetter, isDigit, lowerOf}
 use Rattle.text.specs.Tests.{every, both}
 use Rattle.password.specs.PhraseAndSeed.{plain, seedChecked}
 use Rattle.password.specs.PhraseAndSeedLaws.{good-seed}
-use Rattle.password.specs.Password.{hash, bytesOf}
-use Rattle.reply.specs.Reply.{readingOf}
+use Rattle.password.specs.Password.{hash, bytesOf, numberOf}
 use Rattle.line.specs.Line.{standsIn}
 use Rattle.refusal.specs.Each.{Each}
 use Rattle.accounts.specs.Rooms.{Room, remembered}
@@ -25,13 +24,15 @@ use Rattle.table.specs.Table.{State, freeRoom, placeOf, holds, isThere, lineOf,
 use Rattle.accounts.specs.Accounts.{withValues, newRoom, renewedRoom, lowered, isOneOf}
 use Rattle.table.specs.TableChecks.{accountThere}
 use Rattle.table.specs.Steps as Steps
-use Rattle.table.specs.Steps.{After, enrolChecked, joinChecked, leaveChecked, turnChecked, renewChecked, offered, read}
+use Rattle.table.specs.Steps.{After, enrolChecked, joinChecked, leaveChecked, turnChecked, offered}
 use Rattle.reached.specs.Calls.{Call, after}
+use Rattle.reached.specs.Presented.{Presented, inReply, inRenew, renews, tableChecked, textChecked, presentIn, nextOf, presents}
+use Rattle.reached.specs.PresentedLaws.{renewal-checked, reply-presents, renew-presents}
 use Rattle.reached.specs.InTurn.{tickOf, quiet, keepsAlgorithm, elsewhere}
 use Rattle.reached.specs.Made.{isKept, SeedGood, Different, AccountGood}
 use Rattle.reached.specs.SeedsHad.{keepsAccount}
 use Rattle.reached.specs.SeedLaws.{SeedStep, none-take, different-take, each-take}
-use Rattle.refusal.specs.Laws.{must-good}
+use Rattle.refusal.specs.Laws.{must-good, both-good}
 use Rattle.table.specs.StepLaws.{enrol-passed, join-passed, turn-passed, renew-passed}
 
 -- What the checks of Challenge, Reply and Renew establish.
@@ -102,7 +103,7 @@ seed-good seed e =
     record { from = rw length-map (good .0); to = rw length-map (good .1); kept = seed-lower seed (good .2) }
 
 -- What Enrol and Renew store is good, if the older seeds are seven at most, good and different, and none of them is the new one.
-values-good : (id : ℕ) (older : List (List ℕ)) (number count : ℕ) (seed password : List ℕ) → (leb 2 count && leb count 9999) ≡ true
+values-good : (id : ℕ) (older : List (List ℕ)) (number count : ℕ) (seed : List ℕ) (password : ℕ) → (leb 2 count && leb count 9999) ≡ true
     → seedChecked seed ≡ Checked.Good → length older ≤ 7 → Each SeedGood older → isOneOf (map lowerOf seed) older ≡ false → Different older
     → AccountGood (withValues id older number count seed password)
 values-good id older number count seed password e f few good new different =
@@ -120,10 +121,10 @@ values-good id older number count seed password e f few good new different =
 new-good : (id number count : ℕ) (seed password : List ℕ) → (leb 2 count && leb count 9999) ≡ true → seedChecked seed ≡ Checked.Good
     → AccountGood (newRoom id number count seed password)
 unfolding isOneOf
-new-good id number count seed password e f = values-good id [] number count seed password e f (omega arith) tt refl tt
+new-good id number count seed password e f = values-good id [] number count seed (numberOf password) e f (omega arith) tt refl tt
 
 -- Renew: they are the first seven of those that the account remembered.
-renewed-good : (old : Room) (number count : ℕ) (seed password : List ℕ) → (leb 2 count && leb count 9999) ≡ true
+renewed-good : (old : Room) (number count : ℕ) (seed : List ℕ) (password : ℕ) → (leb 2 count && leb count 9999) ≡ true
     → seedChecked seed ≡ Checked.Good → isOneOf (map lowerOf seed) (remembered old) ≡ false → AccountGood old
     → AccountGood (renewedRoom old number count seed password)
 renewed-good old number count seed password e f new good =
@@ -201,54 +202,57 @@ offered-outcome c port password next s z g n o i a k x =
     go true = Outcome.accepted z port next g n o i a k x
     go false = Outcome.rejected z port g n o
 
--- What is done with a text: nothing where it is refused, else the password is offered.
-read-outcome : (c : Call) (port : ℕ) (text : List ℕ) (next : ℕ → Room) (s : State) → tickOf c ≡ 0 → TurnGood port s → NotBy c port → Outside c s port
-    → ((password : ℕ) → next password .id ≡ ownAccount port s .id)
-    → ((password : ℕ) → AccountGood (ownAccount port s) → AccountGood (next password))
-    → ((password : ℕ) → Kept c (ownAccount port s) (next password)) → ((password : ℕ) → SeedStep (ownAccount port s) (next password))
-    → Outcome c s (read s (readingOf text) (λ password. offered port password (next password) s) .state)
-read-outcome c port text next s z g n o i a k x = go (readingOf text)
-  where
-    go : (r : Reading) → Outcome c s (read s r (λ password. offered port password (next password) s) .state)
-    go (Reading.Password password) =
-        offered-outcome c port password (next password) s z g n o (i password) (a password) (k password) (x password)
-    go (Reading.Refused why) = Outcome.nothing z
+-- Behind the turn's checks the account of a login is a good one.
+lowered-good : (old : Room) (password : ℕ) → 1 < old .count → AccountGood old → AccountGood (lowered old password)
+lowered-good old password unused good = record {
+  count-from = omega arith;
+  count-to = omega (arith, good .count-to);
+  few = good .few;
+  seeds = good .seeds;
+  different = good .different;
+}
+
+-- What is presented: nothing where it is refused, else the password is offered.
+module _ (c : Call) (port : ℕ) (s : State) (z : tickOf c ≡ 0) (n : NotBy c port) (o : Outside c s port) where
+  abbrev old : Room
+  old = ownAccount port s
+
+  passed-outcome : (what : Presented) → ((i : ℕ) → keepsAlgorithm i c ≡ true → renews what ≡ false)
+      → tableChecked port what s ≡ Checked.Good → textChecked what ≡ Checked.Good
+      → Outcome c s (offered port (presentIn what) (nextOf what old) s .state)
+  passed-outcome (Presented.Login present) k e f =
+      let g = turn-good port s (both-good (turnChecked port s) Checked.Good e .0) in
+      offered-outcome c port (passwordIn present) (lowered old (passwordIn present)) s z g n o refl (lowered-good old (passwordIn present) (g .unused))
+      (λ i q. (refl, refl)) (SeedStep.stayed refl)
+  passed-outcome (Presented.Renewal number count seed new present) k e f =
+      let passed = renew-passed port number count seed s (sym (renewal-checked port number count seed new present s) ∙ e) in
+      let other = not-true (isOneOf (map lowerOf seed) (remembered old)) (must-good _ _ (passed .new)) in
+      offered-outcome c port (passwordIn present) (renewedRoom old number count seed (passwordIn new)) s z (turn-good port s (passed .turn)) n o refl
+      (renewed-good old number count seed (passwordIn new) (passed .within) (passed .good) other) (λ i q. absurd (true≢false (k i q)))
+      (SeedStep.renewed other refl)
+  passed-outcome (Presented.Refused why) k e f = let y : _≡_ {A = ℕ} 0 1 = cc in absurd (omega arith)
+
+  presents-outcome : (what : Presented) → ((i : ℕ) → keepsAlgorithm i c ≡ true → renews what ≡ false) → Outcome c s (presents port what s .state)
+  unfolding presents
+  presents-outcome what k =
+      checked-outcome Replied.Refused c s (unless Checked.Refused (tableChecked port what s) (textChecked what)) _ z
+      (λ e. let passed = both-good (tableChecked port what s) (textChecked what) e in passed-outcome what k (passed .0) (passed .1))
 
 reply-outcome : (port : ℕ) (text : List ℕ) (s : State) → Outcome (Call.Reply port text) s (Steps.reply port text s .state)
-unfolding Steps.reply Steps.replyRead
 reply-outcome port text s =
-    checked-outcome Replied.Refused (Call.Reply port text) s (turnChecked port s) _ refl
-    (λ e.
-    let g = turn-good port s e in
-    read-outcome (Call.Reply port text) port text (lowered (ownAccount port s)) s refl g
-    (λ p i q. not-true (eqb port p) q) (λ i q. not-true (standsIn port (lineOf i s)) q)
-    (λ password. refl) (λ password. lower g password) (λ password i e. (refl, refl)) (λ password. SeedStep.stayed refl))
-  where
-    lower : TurnGood port s → (password : ℕ) → AccountGood (ownAccount port s) → AccountGood (lowered (ownAccount port s) password)
-    lower g password a =
-        let unused = g .unused in
-        record {
-          count-from = omega arith;
-          count-to = omega (arith, a .count-to);
-          few = a .few;
-          seeds = a .seeds;
-          different = a .different;
-        }
+    subst (λ (r : After Replied). Outcome (Call.Reply port text) s (r .state)) (sym (reply-presents port text s))
+    (presents-outcome (Call.Reply port text) port s refl (λ p i q. not-true (eqb port p) q) (λ i q. not-true (standsIn port (lineOf i s)) q)
+    (inReply text) (λ i q. not-true (renews (inReply text)) q))
 
 renew-outcome : (port number count : ℕ) (seed new text : List ℕ) (s : State)
     → Outcome (Call.Renew port number count seed new text) s (Steps.renew port number count seed new text s .state)
-unfolding Steps.renew Steps.renewRead
 renew-outcome port number count seed new text s =
-    checked-outcome Replied.Refused (Call.Renew port number count seed new text) s (renewChecked port number count seed s) _ refl
-    (λ e.
-    let passed = renew-passed port number count seed s e in
-    let g = turn-good port s (passed .turn) in
-    let old = ownAccount port s in
-    let other = not-true (isOneOf (map lowerOf seed) (remembered old)) (must-good _ _ (passed .new)) in
-    read-outcome (Call.Renew port number count seed new text) port text (λ password. renewedRoom old number count seed new) s refl g
-    (λ p i q. not-true (eqb port p) q) (λ i q. not-true (standsIn port (lineOf i s)) q) (λ password. refl)
-    (λ password a. renewed-good old number count seed new (passed .within) (passed .good) other a) (λ password i e. absurd (false≢true e))
-    (λ password. SeedStep.renewed other refl))
+    subst (λ (r : After Replied). Outcome renewal s (r .state)) (sym (renew-presents port number count seed new text s))
+    (presents-outcome renewal port s refl (λ p i q. not-true (eqb port p) q) (λ i q. not-true (standsIn port (lineOf i s)) q)
+    (inRenew number count seed new text) (λ i q. absurd (false≢true q)))
+  where
+    renewal : Call
+    renewal = Call.Renew port number count seed new text
 
 -- Every call, on every table.
 pub outcome : (c : Call) (s : State) → Outcome c s (after c s)

@@ -5,10 +5,9 @@ use mathlib.Core.Bool.{Bool, true, cond, not}
 use mathlib.Core.List.{List, [], _∷_}
 use lib.Dec.{eqb}
 use Rattle.text.specs.Tests.{same}
-use Rattle.table.specs.declared.Replied.{Replied}
 use Rattle.table.specs.Table.{State, accountOf}
-use Rattle.table.specs.Steps.{renew}
-use Rattle.reached.specs.Calls.{Call, after}
+use Rattle.reached.specs.Calls.{Call, Answer, answer, after}
+use Rattle.reached.specs.Presented.{Presented, Presents, renews}
 use Rattle.reached.specs.InTurn.{HasTurn}
 
 -- "Remove forgets them": the call does not remove the account i.
@@ -22,10 +21,15 @@ keepsAccount i (Call.Reply port text) = true
 keepsAccount i (Call.Renew port number count seed password text) = true
 keepsAccount i Call.Tick = true
 
--- The call renews the account i: it is Renew, made by the port that has the turn for the account, and is accepted.
-pub data Renews (i : ℕ) (s : State) : Call → Type 0 where
-  accepted : (p n number count : ℕ) (seed new text : List ℕ) → HasTurn p i s
-      → renew p number count seed new text s .answer ≡ Replied.Accepted n → Renews i s (Call.Renew p number count seed new text)
+-- The call renews the account i: it is Renew, or R-6's Reply with an `init` text, made by the port that has the turn for the account, and is accepted.
+pub record Renews (i : ℕ) (s : State) (c : Call) : Type 0 where
+  pub port : ℕ
+  pub count : ℕ
+  pub what : Presented
+  pub presented : Presents port what c
+  pub renewal : renews what ≡ true
+  pub turn : HasTurn port i s
+  pub accepted : answer c s ≡ Answer.Count count
 
 -- The seeds that the account i gets along the calls, in order: one whenever its seed after a call isn't the one before it.
 unfoldable pub following : ℕ → List Call → State → List (List ℕ)

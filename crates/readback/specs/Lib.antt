@@ -1,4 +1,13 @@
 -- What we write we read back, and what each refusal means: theorems over the other crates' definitions.
+pub mod LaidOut
+pub mod StretchRead
+pub mod PartsRead
+pub mod TypedParts
+pub mod ParametersRead
+pub mod PartMeaning
+pub mod ExtendedMeaning
+pub mod RenewalMeaning
+pub mod ExtendedRead
 pub mod PlacesRead
 pub mod WordsRead
 pub mod ReplyRead
@@ -7,3 +16,4 @@ pub mod Examples
 pub mod CardRead
 pub mod CountRead
 pub mod ChallengeRead
+pub mod MarkMeaning

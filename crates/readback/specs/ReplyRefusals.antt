@@ -17,22 +17,22 @@ use Rattle.dictionary.specs.declared.Found.{Found}
 use Rattle.dictionary.specs.Dictionary.{wordAt, placeOf, Unknown}
 use Rattle.dictionary.specs.Laws.{Spelt, unknown-word}
 use Rattle.sixwords.specs.declared.Number.{Number}
-use Rattle.sixwords.specs.Places.{allPlaces, numberOf as placesNumber}
+use Rattle.sixwords.specs.Places.{numberOf as placesNumber}
 use Rattle.hex.specs.Hex.{sixteenDigits, hexReading}
-use Rattle.sixwords.specs.Spelling.{sixWordsOf}
-use Rattle.reply.specs.Reply.{isWord, sixWords, upperText, summed, markOf, marksOf, foundReading, readingOf}
+use Rattle.reply.specs.Reply.{isWord, sixWords, upperText, summed, markOf, marksOf, foundReading, wordsReading, readingOf}
 use Rattle.reply.specs.Marked.{Marked}
 use Rattle.reply.specs.Laws.{spelt-token, six-parts, marks-within, marks-at, marks-only}
+use Rattle.readback.specs.LaidOut.{SumRefused}
 use Rattle.readback.specs.PlacesRead.{number-accepted}
 use Rattle.readback.specs.WordsRead.{places-found, found-tokens, Looked, all, some, looked, found-all, found-marked}
-use Rattle.readback.specs.ReplyRead.{reads-words, reads-hex, words-accepted}
+use Rattle.readback.specs.ReplyRead.{reads-words, reads-hex, tokens-accepted}
 
 -- two answers that are not one
-never : {A : Type 0} → _≡_ {A = ℕ} 0 1 → A
+pub never : {A : Type 0} → _≡_ {A = ℕ} 0 1 → A
 never e = absurd (omega arith)
 
 -- a refusal of words is 31 or 32
-words-why : (found : List Found) (why : Refusal) → foundReading found ≡ Reading.Refused why →
+pub words-why : (found : List Found) (why : Refusal) → foundReading found ≡ Reading.Refused why →
     ((m : ℕ) → why ≡ Refusal.WordUnknown m → ⊥) → why ≡ Refusal.PairSumWrong
 words-why found why e f = go (looked found)
   where
@@ -47,7 +47,7 @@ words-why found why e f = go (looked found)
         absurd (f (marksOf found) (cc))
 
 -- a refusal of hex is 33
-hex-why : (u : List ℕ) (why : Refusal) → hexReading u ≡ Reading.Refused why → (sixteenDigits u ≡ false) × (why ≡ Refusal.ReplyUnread)
+pub hex-why : (u : List ℕ) (why : Refusal) → hexReading u ≡ Reading.Refused why → (sixteenDigits u ≡ false) × (why ≡ Refusal.ReplyUnread)
 unfolding hexReading
 hex-why u why e = go (sixteenDigits u) e
   where
@@ -108,12 +108,7 @@ unknown-text text m e = cases (leb (length text) 128) (λ t. short (leb-true (le
         sym e ∙ long-refused text .1 (leb-false (length text) 128 t) in
         never (cc)
 
--- ---- 32: "words known, pair sum wrong"
-pub record SumRefused (ws : List (List ℕ)) : Type 0 where
-  pub ps : List ℕ
-  pub known : allPlaces ps ≡ true
-  pub words : ws ≡ map wordAt ps
-  pub none : (p : ℕ) → p < 2 ^ 64 → ws ≡ sixWordsOf p → ⊥
+-- ---- 32
 
 -- a word is marked exactly if it isn't in the dictionary
 mark-set : (w : List ℕ) → Spelt w → (markOf (placeOf w) ≡ 1) ↔ Unknown w
@@ -123,25 +118,25 @@ mark-set w s = (λ e. go (placeOf w) refl e, λ u. ap markOf (unknown-word w s .
     go (Found.At i) q e = never (e)
     go Found.Nothing q e = unknown-word w s .0 q
 
-module _ (text : List ℕ) (h : length text ≤ 128) (e : sixWords (tokens text) ≡ true) where
+module _ (ts : List (List ℕ)) (e : sixWords ts ≡ true) where
   abbrev ws : List (List ℕ)
-  ws = map upperText (tokens text)
+  ws = map upperText ts
 
   -- what was found of them, and the answer by it
   abbrev found : List Found
   found = map placeOf ws
 
-  answer : (list : List Found) → found ≡ list → readingOf text ≡ foundReading list
-  answer list a = reads-words text h e ∙ ap foundReading a
+  answer : (list : List Found) → found ≡ list → wordsReading ws ≡ foundReading list
+  answer list a = ap foundReading a
 
   six-found : length found ≡ 6
-  six-found = length-map ws placeOf ∙ length-map (tokens text) upperText ∙ six-parts (tokens text) e .0
+  six-found = length-map ws placeOf ∙ length-map ts upperText ∙ six-parts ts e .0
 
   spelt-at : (i : ℕ) → i < 6 → Spelt (getD ws i [])
   spelt-at i l =
-      let within : i < length (tokens text) = omega (arith, six-parts (tokens text) e .0) in
-      rw (List·getD-map upperText (tokens text) i [])
-      (spelt-token (getD (tokens text) i []) (every-at isWord (tokens text) [] (six-parts (tokens text) e .1) i within))
+      let within : i < length ts = omega (arith, six-parts ts e .0) in
+      rw (List·getD-map upperText ts i [])
+      (spelt-token (getD ts i []) (every-at isWord ts [] (six-parts ts e .1) i within))
 
   -- bit i of m is the mark of word i + 1
   abbrev Bit : ℕ → ℕ → Type 0
@@ -160,11 +155,11 @@ module _ (text : List ℕ) (h : length text ≤ 128) (e : sixWords (tokens text)
           (λ t. let other = eqb-false (m / 2 ^ i % 2) 1 t in omega (arith, ap markOf q))
 
   -- the answer where some mark is set
-  marked-answer : 0 < marksOf found → readingOf text ≡ Reading.Refused (Refusal.WordUnknown (marksOf found))
+  marked-answer : 0 < marksOf found → wordsReading ws ≡ Reading.Refused (Refusal.WordUnknown (marksOf found))
   marked-answer z = answer found refl ∙ found-marked found z
 
-  pub unknown-refused : (m : ℕ) → (readingOf text ≡ Reading.Refused (Refusal.WordUnknown m)) ↔ Marked ws m
-  unknown-refused m = (λ r. go r (looked found), back)
+  pub marks-refused : (m : ℕ) → (wordsReading ws ≡ Reading.Refused (Refusal.WordUnknown m)) ↔ Marked ws m
+  marks-refused m = (λ r. go r (looked found), back)
     where
       not-sum : (n : Number) → summed n ≡ Reading.Refused (Refusal.WordUnknown m) → ⊥
       not-sum (Number.Is p) q = never (cc)
@@ -180,7 +175,7 @@ module _ (text : List ℕ) (h : length text ≤ 128) (e : sixWords (tokens text)
                 bit-exactly (marksOf found) (k - 1) six .0 (marks-at found (k - 1) (placeOf []) (omega (arith, six-found)));
           }
 
-      go : readingOf text ≡ Reading.Refused (Refusal.WordUnknown m) → Looked found → Marked ws m
+      go : wordsReading ws ≡ Reading.Refused (Refusal.WordUnknown m) → Looked found → Marked ws m
       go r (all ps a) = absurd (not-sum (placesNumber ps) (sym (answer (map Found.At ps) a ∙ found-all ps) ∙ r))
       go r (some z) =
           let told : Reading.Refused (Refusal.WordUnknown (marksOf found)) ≡ Reading.Refused (Refusal.WordUnknown m) = sym (marked-answer z) ∙ r in
@@ -192,46 +187,57 @@ module _ (text : List ℕ) (h : length text ≤ 128) (e : sixWords (tokens text)
           let before : i + 1 - 1 ≡ i = omega arith in
           bit-exactly m i six .1 (subst (λ (n : ℕ). (m / 2 ^ n % 2 ≡ 1) ↔ Unknown (getD ws n [])) before (f .exactly (i + 1) (omega arith) (omega arith)))
 
-      back : Marked ws m → readingOf text ≡ Reading.Refused (Refusal.WordUnknown m)
+      back : Marked ws m → wordsReading ws ≡ Reading.Refused (Refusal.WordUnknown m)
       back f =
           let few : m < 2 ^ length found = rw six-found (omega (arith, f .of-six)) in
           let same = marks-only found m (placeOf []) few (λ i l. bit f i (omega (arith, six-found))) in
           marked-answer (omega (arith, same, f .some-set)) ∙ ap (λ (n : ℕ). Reading.Refused (Refusal.WordUnknown n)) (sym same)
 
-  -- the marks are one number
-  pub marks-one : (m n : ℕ) → Marked ws m → Marked ws n → m ≡ n
-  marks-one m n f g =
+  pub marks-alike : (m n : ℕ) → Marked ws m → Marked ws n → m ≡ n
+  marks-alike m n f g =
       let both-so : Reading.Refused (Refusal.WordUnknown m) ≡ Reading.Refused (Refusal.WordUnknown n) =
-      sym (unknown-refused m .1 f) ∙ unknown-refused n .1 g in
+      sym (marks-refused m .1 f) ∙ marks-refused n .1 g in
       cc
 
-  pub sum-refused : (readingOf text ≡ Reading.Refused Refusal.PairSumWrong) ↔ SumRefused ws
-  sum-refused = (λ r. go r (looked found), back)
+  pub sums-refused : (wordsReading ws ≡ Reading.Refused Refusal.PairSumWrong) ↔ SumRefused ws
+  sums-refused = (λ r. go r (looked found), back)
     where
-      go : readingOf text ≡ Reading.Refused Refusal.PairSumWrong → Looked found → SumRefused ws
+      go : wordsReading ws ≡ Reading.Refused Refusal.PairSumWrong → Looked found → SumRefused ws
       go r (all ps a) =
-          let there = found-tokens (tokens text) ps (six-parts (tokens text) e .1) a in
+          let there = found-tokens ts ps (six-parts ts e .1) a in
           record {
             ps = ps;
             known = there .0;
             words = there .1;
-            none = λ p l q. let read = words-accepted text h e p .1 (l, q) in never (cc);
+            none = λ p l q. let read = tokens-accepted ts e p .1 (l, q) in never (cc);
           }
       go r (some z) =
           let told : Reading.Refused (Refusal.WordUnknown (marksOf found)) ≡ Reading.Refused Refusal.PairSumWrong = sym (marked-answer z) ∙ r in
           never (cc)
 
-      back : SumRefused ws → readingOf text ≡ Reading.Refused Refusal.PairSumWrong
+      back : SumRefused ws → wordsReading ws ≡ Reading.Refused Refusal.PairSumWrong
       back f =
           answer (map Found.At (f .ps)) (ap (map placeOf) (f .words) ∙ places-found (f .ps) (f .known)) ∙
           found-all (f .ps) ∙
           wrong (placesNumber (f .ps)) refl
         where
           count : length (f .ps) ≡ 6
-          count = sym (length-map (f .ps) wordAt) ∙ ap length (sym (f .words)) ∙ length-map (tokens text) upperText ∙ six-parts (tokens text) e .0
+          count = sym (length-map (f .ps) wordAt) ∙ ap length (sym (f .words)) ∙ length-map ts upperText ∙ six-parts ts e .0
 
           wrong : (n : Number) → placesNumber (f .ps) ≡ n → summed n ≡ Reading.Refused Refusal.PairSumWrong
           wrong (Number.Is p) q =
               let there = number-accepted (f .ps) count p .0 q in
               absurd (f .none p (there .0) (f .words ∙ ap (map wordAt) (sym (there .1))))
           wrong Number.SumWrong q = refl
+
+-- ---- so of a text of such tokens
+module _ (text : List ℕ) (h : length text ≤ 128) (e : sixWords (tokens text) ≡ true) where
+  pub unknown-refused : (m : ℕ) → (readingOf text ≡ Reading.Refused (Refusal.WordUnknown m)) ↔ Marked (map upperText (tokens text)) m
+  unknown-refused m = rw (reads-words text h e) (marks-refused (tokens text) e m)
+
+  -- the marks are one number
+  pub marks-one : (m n : ℕ) → Marked (map upperText (tokens text)) m → Marked (map upperText (tokens text)) n → m ≡ n
+  marks-one = marks-alike (tokens text) e
+
+  pub sum-refused : (readingOf text ≡ Reading.Refused Refusal.PairSumWrong) ↔ SumRefused (map upperText (tokens text))
+  sum-refused = rw (reads-words text h e) (sums-refused (tokens text) e)

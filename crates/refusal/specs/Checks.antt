@@ -3,6 +3,7 @@ use mathlib.Core.Bool.{Bool, cond}
 use mathlib.Core.List.{List, [], _∷_}
 use Rattle.refusal.specs.declared.Refusal.{Refusal}
 use Rattle.refusal.specs.declared.Checked.{Checked}
+use Rattle.refusal.specs.declared.Reading.{Reading}
 
 -- A test, with its refusal.
 abbrev pub must : Bool → Refusal → Checked
@@ -17,3 +18,8 @@ unless refused (Checked.Refused why) next = refused why
 abbrev pub inOrder : List Checked → Checked
 inOrder [] = Checked.Good
 inOrder (check ∷ checks) = unless Checked.Refused check (inOrder checks)
+
+-- What a password that was to be read is refused with.
+abbrev pub readChecked : Reading → Checked
+readChecked (Reading.Password password) = Checked.Good
+readChecked (Reading.Refused why) = Checked.Refused why

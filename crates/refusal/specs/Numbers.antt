@@ -22,6 +22,8 @@ listingOf Refusal.ReplyLong = record { 0 = 30; 1 = 0 }
 listingOf (Refusal.WordUnknown marks) = record { 0 = 31; 1 = marks }
 listingOf Refusal.PairSumWrong = record { 0 = 32; 1 = 0 }
 listingOf Refusal.ReplyUnread = record { 0 = 33; 1 = 0 }
+listingOf Refusal.TypeUnknown = record { 0 = 34; 1 = 0 }
+listingOf Refusal.PartsWrong = record { 0 = 35; 1 = 0 }
 listingOf Refusal.BufferShort = record { 0 = 40; 1 = 0 }
 listingOf Refusal.IdZero = record { 0 = 50; 1 = 0 }
 listingOf Refusal.CountOutside = record { 0 = 51; 1 = 0 }
@@ -53,6 +55,9 @@ checkedNumbers (Checked.Refused why) = listingOf why
 abbrev pub readingNumbers : Reading → Listing × ℕ
 readingNumbers (Reading.Password password) = (unrefused, password)
 readingNumbers (Reading.Refused why) = (listingOf why, 0)
+
+abbrev pub passwordIn : Reading → ℕ
+passwordIn r = readingNumbers r .1
 
 -- and the bytes written
 abbrev pub writtenNumbers : Written → Listing × ℕ

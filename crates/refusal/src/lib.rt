@@ -1,4 +1,4 @@
-// The refusals of document 01, 'Refusal numbers', and the answers that several crates give over them.
+// The refusals of document 01, 'Refusal numbers', and of document 02, and the answers that several crates give over them.
 ghost use mathlib.Core.Path.{_≡_};
 ghost use Rattle.refusal.specs.Numbers.{listingOf};
 
@@ -18,6 +18,8 @@ pub enum Refusal {
     WordUnknown { marks: u8 }, // 31, with the marks, 1 to 63: 1 for the first word, 2 for the second, up to 32
     PairSumWrong, // 32
     ReplyUnread, // 33
+    TypeUnknown, // 34
+    PartsWrong, // 35
     BufferShort, // 40
     IdZero, // 50
     CountOutside, // 51
@@ -75,6 +77,8 @@ pub fn listing_of(refusal: Refusal) -> Listing
         Refusal::WordUnknown { marks } => Listing(31, marks as u32),
         Refusal::PairSumWrong => Listing(32, 0),
         Refusal::ReplyUnread => Listing(33, 0),
+        Refusal::TypeUnknown => Listing(34, 0),
+        Refusal::PartsWrong => Listing(35, 0),
         Refusal::BufferShort => Listing(40, 0),
         Refusal::IdZero => Listing(50, 0),
         Refusal::CountOutside => Listing(51, 0),

@@ -1,4 +1,4 @@
--- The six places of a call's words: where each text stands, and that it stands within the line.
+-- The seven places of a call's words: where each text stands, and that it stands within the line.
 use Prim.Native.Nat.{ℕ, zero, suc, _%_, _≤_, _<_, zero-le}
 use mathlib.Core.Path.{_≡_, refl, sym, _∙_, ap, subst}
 use mathlib.Core.Bool.{true, false, _&&_}
@@ -13,19 +13,20 @@ use Rattle.replay.specs.declared.word_values.Number.{Number}
 use Rattle.replay.specs.declared.word_values.Bytes.{Bytes}
 use Rattle.replay.specs.declared.script_words.Kind.{Kind}
 use Rattle.replay.specs.declared.script_words.Word.{Word}
-use Rattle.replay.specs.ReplayWords.{isDigitOf, numberIn, passwordIn, textIn, ofNumber, ofBytes, wordIn}
+use Rattle.extended.specs.ReplyTypes.{typed}
+use Rattle.replay.specs.ReplayWords.{isDigitOf, numberIn, passwordIn, textIn, ofType, ofNumber, ofBytes, wordIn}
 
 -- where texts start and end, of a line of n bytes
 abbrev pub Inside : List ℕ → List ℕ → ℕ → Type 0
-Inside starts ends n = (k : ℕ) → k < 6 → (getD starts k 0 ≤ getD ends k 0) × (getD ends k 0 ≤ n)
+Inside starts ends n = (k : ℕ) → k < 7 → (getD starts k 0 ≤ getD ends k 0) × (getD ends k 0 ≤ n)
 
 zero-at : (m k : ℕ) → _≡_ {A = ℕ} (getD (replicate m 0) k 0) 0
 zero-at zero k = refl
 zero-at (suc m) zero = refl
 zero-at (suc m) (suc k) = zero-at m k
 
-pub zeros-inside : (n : ℕ) → Inside (replicate 6 0) (replicate 6 0) n
-zeros-inside n k h = (omega arith, omega (arith, zero-at 6 k))
+pub zeros-inside : (n : ℕ) → Inside (replicate 7 0) (replicate 7 0) n
+zeros-inside n k h = (omega arith, omega (arith, zero-at 7 k))
 
 -- one more text
 pub set-inside : (starts ends : List ℕ) (k s e n : ℕ) → k < length starts → k < length ends → s ≤ e
@@ -62,6 +63,7 @@ bytes-within Kind.Algorithm w = none-there (numberIn 10 255 w) (length w)
 bytes-within Kind.Number w = none-there (numberIn 10 65535 w) (length w)
 bytes-within Kind.Room w = none-there (numberIn 10 8192 w) (length w)
 bytes-within Kind.Ticks w = none-there (numberIn 10 100000 w) (length w)
+bytes-within Kind.Type w = none-there (ofType (typed w)) (length w)
 bytes-within Kind.No w = zero-le
 
 -- what a word of a known kind says

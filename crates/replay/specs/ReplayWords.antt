@@ -7,6 +7,8 @@ use lib.ListN.{length, getD, take, drop}
 use Rattle.text.specs.Kinds.{lowerOf}
 use Rattle.text.specs.Digits.{digitValue, numberOf}
 use Rattle.text.specs.Tests.{every, same}
+use Rattle.extended.specs.declared.reply_types.Typed.{Typed}
+use Rattle.extended.specs.ReplyTypes.{typed, typeNumber}
 use Rattle.replay.specs.declared.word_values.Number.{Number}
 use Rattle.replay.specs.declared.word_values.Bytes.{Bytes}
 use Rattle.replay.specs.declared.script_words.Kind.{Kind}
@@ -48,6 +50,11 @@ abbrev pub held : Bytes → List ℕ → List ℕ
 held (Bytes.Are n) b = take n b
 held Bytes.Bad b = []
 
+-- "KIND is `hex`, `word`, `init-hex` or `init-word`, another is `bad`": by its number
+abbrev pub ofType : Typed → Number
+ofType (Typed.Is kind) = Number.Is (typeNumber kind)
+ofType Typed.Unknown = Number.Bad
+
 -- what a word that is a number says, and one that is a text
 abbrev pub ofNumber : Number → Word
 ofNumber (Number.Is n) = record { good = true; len = 0; number = n }
@@ -66,6 +73,7 @@ wordIn Kind.Algorithm w = ofNumber (numberIn 10 255 w)
 wordIn Kind.Number w = ofNumber (numberIn 10 65535 w)
 wordIn Kind.Room w = ofNumber (numberIn 10 8192 w)
 wordIn Kind.Ticks w = ofNumber (numberIn 10 100000 w)
+wordIn Kind.Type w = ofNumber (ofType (typed w))
 wordIn Kind.No w = ofNumber Number.Bad
 
 -- the bytes of word k, a text; the number that word k says
@@ -81,4 +89,4 @@ heldTo most n = cond (ltb n (most + 1)) n most
 
 -- a call's texts stand within its line, which has n bytes
 abbrev pub Within : Given → ℕ → Type 0
-Within given n = (k : ℕ) → k < 6 → (getD (given .starts) k 0 ≤ getD (given .ends) k 0) × (getD (given .ends) k 0 ≤ n)
+Within given n = (k : ℕ) → k < 7 → (getD (given .starts) k 0 ≤ getD (given .ends) k 0) × (getD (given .ends) k 0 ≤ n)

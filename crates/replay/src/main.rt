@@ -29,22 +29,38 @@ fn is_passed(line: &[u8]) -> bool {
     line[0] == b'#'
 }
 
-// The number of the call that a line names.
+// Whether the word behind that place, where a name ends, begins as the types of a renewal do, and no others.
+fn is_init(line: &[u8], end: usize) -> bool {
+    if line.len() <= end {
+        return false;
+    }
+    if line.len() - end == 1 {
+        return false;
+    }
+    line[end + 1] == b'i'
+}
+
+// The number of the call that a line names. `wext` is two, by its first word.
 fn call_in(line: &[u8]) -> usize {
     let end = script_words::end_of(line, 0);
-    names::call_of(&line[..end])
+    let call = names::call_of(&line[..end]);
+    if (call == 10) & is_init(line, end) {
+        11
+    } else {
+        call
+    }
 }
 
 // Answers a call, and hands back the table after it. The older seeds of its accounts are lent.
 fn answer_call(line: &mut [u8], call: usize, table: Table, older: &mut [u8; 3808]) -> Table
-    requires { ⌜ call < 20 ⌝ }
+    requires { ⌜ call < 22 ⌝ }
 {
     let given = script_words::read(line, call);
     if !given.good {
         printing::bad();
         return table;
     }
-    if call < 10 {
+    if call < 12 {
         text_calls::answer(call, line, given);
         return table;
     }
@@ -57,7 +73,7 @@ fn answer(line: &mut [u8], table: Table, older: &mut [u8; 3808]) -> Table {
         return table;
     }
     let call = call_in(line);
-    if 19 < call {
+    if 21 < call {
         printing::bad();
         return table;
     }

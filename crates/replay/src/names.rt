@@ -1,19 +1,20 @@
-// The calls by number: what each is called, and of what kinds its words are. Numbers under 10 are calls that need no table.
+// The calls by number: what each is called, and of what kinds its words are. Numbers under 12 are calls that need no table. `wext` is two calls, 10 for
+// a login and 11 for a renewal.
 ghost use Prim.Native.Nat.{_<_};
 use crate::script_words::Kind;
 
 // A byte of the name of a call: nine to each, of which the last may be blank.
 fn letter(call: usize, i: usize) -> u8
-    requires { ⌜ (call < 20) × (i < 9) ⌝ }
+    requires { ⌜ (call < 22) × (i < 9) ⌝ }
 {
-    if call < 10 {
+    if call < 12 {
         let early =
-            b"md5      sha1     gen      words    hex      read     chal     wchal    card     prog     ";
+            b"md5      sha1     gen      words    hex      read     chal     wchal    card     prog     wext     wext     ";
         return early[9 * call + i];
     }
     let late =
         b"new      enrol    remove   join     leave    challengereply    renew    tick     dump     ";
-    late[9 * (call - 10) + i]
+    late[9 * (call - 12) + i]
 }
 
 // A byte of a word; a blank past its end.
@@ -26,7 +27,7 @@ fn letter_of(word: &[u8], i: usize) -> u8 {
 
 // Whether that is the call's name. A word has no blank in it.
 fn is_named(word: &[u8], call: usize) -> bool
-    requires { ⌜ call < 20 ⌝ }
+    requires { ⌜ call < 22 ⌝ }
 {
     let mut i = 0;
     while i < 9 {
@@ -38,13 +39,13 @@ fn is_named(word: &[u8], call: usize) -> bool
     true
 }
 
-// The number of the call with that name; 20 where there is none.
+// The number of the first call with that name; 22 where there is none.
 pub fn call_of(word: &[u8]) -> usize {
     if 9 < word.len() {
-        return 20;
+        return 22;
     }
     let mut call = 0;
-    while call < 20 {
+    while call < 22 {
         if is_named(word, call) {
             return call;
         }
@@ -53,20 +54,31 @@ pub fn call_of(word: &[u8]) -> usize {
     call
 }
 
-// The kind of a call's word k, from a list with six letters to each call.
-pub fn kind_of(call: usize, k: usize) -> Kind
-    requires { ⌜ (call < 20) × (k < 6) ⌝ }
+// The letter of the kind of a call's word k, of seven to each call.
+fn kind_letter(call: usize, k: usize) -> u8
+    requires { ⌜ (call < 22) × (k < 7) ⌝ }
 {
-    let kinds =
-        b"T-----T-----ATTN--PR----PR----T-----T-----ATNR--TTNR--T-----------NANTP-N-----NN----N-----NR----NT----NANTPTK-----------";
-    let at = 6 * call + k;
-    match kinds[at] {
+    if call < 12 {
+        let early =
+            b"T------T------ATTN---PR-----PR-----T------T------ATNR---TTNR---T------YPR----YPANTPR";
+        return early[7 * call + k];
+    }
+    let late = b"-------NANTP--N------NN-----N------NR-----NT-----NANTPT-K-------------";
+    late[7 * (call - 12) + k]
+}
+
+// The kind of a call's word k.
+pub fn kind_of(call: usize, k: usize) -> Kind
+    requires { ⌜ (call < 22) × (k < 7) ⌝ }
+{
+    match kind_letter(call, k) {
         b'T' => Kind::Text,
         b'P' => Kind::Password,
         b'A' => Kind::Algorithm,
         b'N' => Kind::Number,
         b'R' => Kind::Room,
         b'K' => Kind::Ticks,
+        b'Y' => Kind::Type,
         _ => Kind::No,
     }
 }

@@ -10,6 +10,7 @@ use crate::word_values::Number;
 use crate::word_values::number_in;
 use crate::word_values::password_in;
 use crate::word_values::text_in;
+use crate::word_values::type_in;
 
 // What a call's word may be.
 pub enum Kind {
@@ -19,6 +20,7 @@ pub enum Kind {
     Number, // a port, an id, a count, a number of lines
     Room,
     Ticks,
+    Type, // of an extended reply
     No, // the call has no such word
 }
 
@@ -33,9 +35,9 @@ pub struct Word {
 // `starts[k]` up to `ends[k]`; any other says `numbers[k]`.
 pub struct Given {
     pub good: bool,
-    pub starts: [usize; 6],
-    pub ends: [usize; 6],
-    pub numbers: [u64; 6],
+    pub starts: [usize; 7],
+    pub ends: [usize; 7],
+    pub numbers: [u64; 7],
 }
 
 // Where the word that starts at a place ends: before a space, or with the line.
@@ -91,6 +93,7 @@ fn word_of(word: &mut [u8], kind: Kind) -> Word
         Kind::Number => of_number(number_in(word, 10, 65535)),
         Kind::Room => of_number(number_in(word, 10, 8192)),
         Kind::Ticks => of_number(number_in(word, 10, 100000)),
+        Kind::Type => of_number(type_in(word)),
         Kind::No => of_number(Number::Bad),
     }
 }
@@ -101,19 +104,19 @@ fn none() -> Given
 {
     Given {
         good: false,
-        starts: [0usize; 6],
-        ends: [0usize; 6],
-        numbers: [0u64; 6],
+        starts: [0usize; 7],
+        ends: [0usize; 7],
+        numbers: [0u64; 7],
     }
 }
 
 // How many words a call takes.
 fn count(call: usize) -> usize
-    requires { ⌜ call < 20 ⌝ }
-    ensures { λ r. ⌜ r ≤ 6 ⌝ }
+    requires { ⌜ call < 22 ⌝ }
+    ensures { λ r. ⌜ r ≤ 7 ⌝ }
 {
     let mut n = 0;
-    while n < 6 {
+    while n < 7 {
         let kind = kind_of(call, n);
         if let Kind::No = kind {
             return n;
@@ -125,12 +128,12 @@ fn count(call: usize) -> usize
 
 // What the words after the name say. The bytes of texts take the place of their digits.
 pub fn read(line: &mut [u8], call: usize) -> Given
-    requires { ⌜ call < 20 ⌝ }
+    requires { ⌜ call < 22 ⌝ }
     ensures { λ r. ⌜ Within r (length (now (line .entry))) ⌝ }
 {
-    let mut starts = [0usize; 6];
-    let mut ends = [0usize; 6];
-    let mut numbers = [0u64; 6];
+    let mut starts = [0usize; 7];
+    let mut ends = [0usize; 7];
+    let mut numbers = [0u64; 7];
     let n = count(call);
     let mut at = end_of(line, 0);
     let mut k = 0;
@@ -159,7 +162,7 @@ pub fn read(line: &mut [u8], call: usize) -> Given
 
 // The bytes of word k, a text.
 pub fn text(line: &[u8], given: Given, k: usize) -> &[u8]
-    requires { ⌜ Within given (length (now line)) × (k < 6) ⌝ }
+    requires { ⌜ Within given (length (now line)) × (k < 7) ⌝ }
     ensures { λ r. ⌜ now r ≡ textAt given k (now (line .entry)) ⌝ }
 {
     let starts = given.starts;
@@ -171,7 +174,7 @@ pub fn text(line: &[u8], given: Given, k: usize) -> &[u8]
 
 // The number that word k says.
 pub fn number(given: Given, k: usize) -> u64
-    requires { ⌜ k < 6 ⌝ }
+    requires { ⌜ k < 7 ⌝ }
     ensures { λ r. ⌜ r ≡ numberAt given k ⌝ }
 {
     let numbers = given.numbers;
@@ -182,7 +185,7 @@ pub fn number(given: Given, k: usize) -> u64
 
 // An id, an algorithm, a count, a number of lines.
 pub fn short(given: Given, k: usize) -> u16
-    requires { ⌜ k < 6 ⌝ }
+    requires { ⌜ k < 7 ⌝ }
     ensures { λ r. ⌜ r ≡ heldTo 65535 (numberAt given k) ⌝ }
 {
     let n = number(given, k);

@@ -71,10 +71,11 @@ fn challenge(given: Given, table: Table) -> Table {
     table
 }
 
-fn reply(line: &[u8], given: Given, table: Table) -> Table
+fn reply(line: &[u8], given: Given, table: Table, older: &mut [u8; 3808]) -> Table
     requires { ⌜ Within given (length (now line)) ⌝ }
 {
-    answered(login::reply(table, port(given), text(line, given, 1)))
+    let reply = text(line, given, 1);
+    answered(login::reply(table, older, port(given), reply))
 }
 
 fn renew(line: &[u8], given: Given, table: Table, older: &mut [u8; 3808]) -> Table
@@ -112,15 +113,15 @@ pub fn answer(call: usize, line: &[u8], given: Given, table: Table, older: &mut 
     requires { ⌜ Within given (length (now line)) ⌝ }
 {
     match call {
-        10 => new(),
-        11 => enrol(line, given, table),
-        12 => remove(given, table),
-        13 => join(given, table),
-        14 => leave(given, table),
-        15 => challenge(given, table),
-        16 => reply(line, given, table),
-        17 => renew(line, given, table, older),
-        18 => ticks(table, number(given, 0)),
+        12 => new(),
+        13 => enrol(line, given, table),
+        14 => remove(given, table),
+        15 => join(given, table),
+        16 => leave(given, table),
+        17 => challenge(given, table),
+        18 => reply(line, given, table, older),
+        19 => renew(line, given, table, older),
+        20 => ticks(table, number(given, 0)),
         _ => dump(table, older),
     }
 }

@@ -60,6 +60,7 @@ fn chal(text: &[u8]) {
             start,
             len,
             used,
+            ext,
         } => {
             good();
             after_space(number_of(algorithm) as u64);
@@ -67,10 +68,30 @@ fn chal(text: &[u8]) {
             after_space(start as u64);
             after_space(len as u64);
             after_space(used as u64);
+            after_space(if ext { 1 } else { 0 });
             byte(b'\n');
         }
         Challenge::Refused(why) => refused(why),
     }
+}
+
+// The writer of extended replies. A login has neither values nor a new password, and words that it hasn't say 0 and nothing.
+fn extended_reply(line: &[u8], given: Given, lent: &mut [u8]) -> Written
+    requires { ⌜ Within given (length (now line)) ⌝ }
+{
+    let kind = short(given, 0) as u32;
+    let algorithm = short(given, 2) as u32;
+    let count = short(given, 3) as u32;
+    let seed = text(line, given, 4);
+    extended::reply_writer::write(
+        kind,
+        number(given, 1),
+        algorithm,
+        count,
+        seed,
+        number(given, 5),
+        lent,
+    )
 }
 
 // What a writer answers, on the buffer that it is lent.
@@ -86,6 +107,8 @@ fn write(call: usize, line: &[u8], given: Given, lent: &mut [u8]) -> Written
             short(given, 2) as u32,
             lent,
         ),
+        10 => extended_reply(line, given, lent),
+        11 => extended_reply(line, given, lent),
         _ => cards::write_card(
             text(line, given, 0),
             text(line, given, 1),
@@ -127,6 +150,8 @@ pub fn answer(call: usize, line: &[u8], given: Given)
         7 => writer(call, line, given, number(given, 3)),
         8 => writer(call, line, given, number(given, 3)),
         9 => prog(text(line, given, 0)),
+        10 => writer(call, line, given, number(given, 2)),
+        11 => writer(call, line, given, number(given, 6)),
         _ => writer(call, line, given, number(given, 1)),
     }
 }

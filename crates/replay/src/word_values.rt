@@ -2,7 +2,11 @@
 ghost use mathlib.Core.Path.{_≡_};
 ghost use Prim.Native.Nat.{_%_, _≤_, _<_};
 ghost use lib.ListN.{length};
-ghost use Rattle.replay.specs.ReplayWords.{digitIn, numberIn, passwordIn, bytesIn, pairsIn, textIn, held};
+ghost use Rattle.replay.specs.ReplayWords.{digitIn, numberIn, passwordIn, bytesIn, pairsIn, textIn, held, ofType};
+ghost use Rattle.extended.specs.ReplyTypes.{typed};
+use extended::reply_types::ReplyType;
+use extended::reply_types::Typed;
+use extended::reply_types::read_type;
 use text::kinds::lower;
 use text::scan::digit_value;
 
@@ -59,6 +63,21 @@ pub fn password_in(word: &[u8]) -> Number
         return number_in(word, 16, 18446744073709551615);
     }
     Number::Bad
+}
+
+// The number of the type of an extended reply with that name.
+pub fn type_in(word: &[u8]) -> Number
+    ensures { λ r. ⌜ r ≡ ofType (typed (now (word .entry))) ⌝ }
+{
+    let Typed::Is(kind) = read_type(word) else {
+        return Number::Bad;
+    };
+    match kind {
+        ReplyType::Hex => Number::Is(1),
+        ReplyType::Word => Number::Is(2),
+        ReplyType::InitHex => Number::Is(3),
+        ReplyType::InitWord => Number::Is(4),
+    }
 }
 
 // The bytes that the word's pairs of hex digits stand for, put at the word's front.

@@ -14,7 +14,7 @@ use Rattle.dictionary.specs.Dictionary.{foundOf, placeOf}
 use Rattle.dictionary.specs.Laws.{place-packed}
 use Rattle.reply.specs.declared.typed_words.Six.{Six}
 use Rattle.hex.specs.Hex.{hexReading}
-use Rattle.reply.specs.Reply.{isWord, upperText, sixWords, foundReading, wordsReading, readingOf}
+use Rattle.reply.specs.Reply.{isWord, upperText, sixWords, foundReading, wordsReading, sixReading, readingOf}
 use Rattle.reply.specs.Laws.{spelt-token, six-parts}
 use Rattle.reply.specs.Inside.{packedToken, sixOf}
 
@@ -42,20 +42,41 @@ pub too-long : (s : List ℕ) → 128 < length s → Reading.Refused Refusal.Rep
 unfolding readingOf
 too-long s h = rw (lt-ltb 128 (length s) h)
 
-module _ (s : List ℕ) (h : length s ≤ 128) (six : Six) (e : six ≡ sixOf (tokens s)) (r : Reading) where
-  pub as-words : six .are ≡ true → r ≡ foundReading (map foundOf (six .words)) → r ≡ readingOf s
-  unfolding readingOf
-  as-words a f =
-      let told = six-told (sixWords (tokens s)) (map packedToken (tokens s)) (replicate 6 0) six e a in
-      f ∙ ap (λ (ws : List ℕ). foundReading (map foundOf ws)) (told .1)
-      ∙ ap foundReading (found-tokens (tokens s) (six-parts (tokens s) (told .0) .1))
-      ∙ sym (ap₂ (λ (a b : Bool). cond a (Reading.Refused Refusal.ReplyLong)
-      (cond b (wordsReading (map upperText (tokens s))) (hexReading (unspaced s)))) (le-ltb 128 (length s) h) (told .0))
+module _ (s : List ℕ) (six : Six) (e : six ≡ sixOf (tokens s)) where
+  -- six words, and what they are read as
+  words-read : (r : Reading) → six .are ≡ true → r ≡ foundReading (map foundOf (six .words))
+      → (sixWords (tokens s) ≡ true) × (r ≡ wordsReading (map upperText (tokens s)))
+  words-read r a f =
+      let told = six-told (sixWords (tokens s)) (map packedToken (tokens s)) (replicate 6 0) six e a in (
+        told .0,
+        f ∙ ap (λ (ws : List ℕ). foundReading (map foundOf ws)) (told .1)
+            ∙ ap foundReading (found-tokens (tokens s) (six-parts (tokens s) (told .0) .1)),
+      )
 
-  pub as-hex : six .are ≡ false → r ≡ hexReading (unspaced s) → r ≡ readingOf s
-  unfolding readingOf
-  as-hex a f =
-      f
-      ∙ sym (ap₂ (λ (a b : Bool). cond a (Reading.Refused Refusal.ReplyLong)
-      (cond b (wordsReading (map upperText (tokens s))) (hexReading (unspaced s)))) (le-ltb 128 (length s) h)
-      (other-told (sixWords (tokens s)) (map packedToken (tokens s)) (replicate 6 0) six e a))
+  other-tokens : six .are ≡ false → sixWords (tokens s) ≡ false
+  other-tokens a = other-told (sixWords (tokens s)) (map packedToken (tokens s)) (replicate 6 0) six e a
+
+  -- by the type `word`
+  pub as-six : (r : Reading) → six .are ≡ true → r ≡ foundReading (map foundOf (six .words)) → r ≡ sixReading s
+  unfolding sixReading
+  as-six r a f =
+      let read = words-read r a f in
+      read .1 ∙ sym (ap (λ (b : Bool). cond b (wordsReading (map upperText (tokens s))) (Reading.Refused Refusal.ReplyUnread)) (read .0))
+
+  pub not-six : six .are ≡ false → Reading.Refused Refusal.ReplyUnread ≡ sixReading s
+  unfolding sixReading
+  not-six a = sym (ap (λ (b : Bool). cond b (wordsReading (map upperText (tokens s))) (Reading.Refused Refusal.ReplyUnread)) (other-tokens a))
+
+  -- plain
+  module _ (h : length s ≤ 128) where
+    short-reading : (b : Bool) → sixWords (tokens s) ≡ b → readingOf s ≡ cond b (wordsReading (map upperText (tokens s))) (hexReading (unspaced s))
+    unfolding readingOf
+    short-reading b t =
+        ap₂ (λ (l d : Bool). cond l (Reading.Refused Refusal.ReplyLong)
+        (cond d (wordsReading (map upperText (tokens s))) (hexReading (unspaced s)))) (le-ltb 128 (length s) h) t
+
+    pub as-words : (r : Reading) → six .are ≡ true → r ≡ foundReading (map foundOf (six .words)) → r ≡ readingOf s
+    as-words r a f = let read = words-read r a f in read .1 ∙ sym (short-reading true (read .0))
+
+    pub as-hex : (r : Reading) → six .are ≡ false → r ≡ hexReading (unspaced s) → r ≡ readingOf s
+    as-hex r a f = f ∙ sym (short-reading false (other-tokens a))

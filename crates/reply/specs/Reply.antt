@@ -1,4 +1,4 @@
--- 01, Six words and hex, and 02, R-2: what a reply says.
+-- 01, Six words and hex, and 02, R-2: what a plain reply says.
 use Prim.Native.Nat.{ℕ, _+_, _*_}
 use mathlib.Core.Bool.{Bool, cond, _&&_}
 use mathlib.Core.List.{List, [], _∷_, map}
@@ -57,6 +57,10 @@ foundReading found = markedOr (marksOf found) (placesNumber (map placeIn found))
 -- "it is read as words"
 abbrev pub wordsReading : List (List ℕ) → Reading
 wordsReading ws = foundReading (map placeOf ws)
+
+-- R-6, `word` types: "33 also where the text isn't of its type"
+unfoldable pub sixReading : List ℕ → Reading
+sixReading text = cond (sixWords (tokens text)) (wordsReading (map upperText (tokens text))) (Reading.Refused Refusal.ReplyUnread)
 
 -- 30: "reply over 128 bytes"; then words, and otherwise hex
 unfoldable pub readingOf : List ℕ → Reading

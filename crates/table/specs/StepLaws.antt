@@ -147,7 +147,7 @@ module _ (port : ℕ) (s : State) where
 
   pub challenge-done : (room : ℕ) → turnChecked port s ≡ Checked.Good
       → steps.challenge port room s
-      ≡ challengeWrittenBy (ownAccount port s .algorithm) (ownAccount port s .seed) (ownAccount port s .count - 1) room
+      ≡ challengeWrittenBy true (ownAccount port s .algorithm) (ownAccount port s .seed) (ownAccount port s .count - 1) room
   unfolding steps.challenge
   challenge-done room e = rw e
 

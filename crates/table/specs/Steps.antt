@@ -1,6 +1,6 @@
--- The written steps, one for each call: document 01, 'Table, ports and turns', in its order and words; document 02, R-1, R-4 and R-5.
+-- The written steps, one for each call: document 01, 'Table, ports and turns', in its order and words; document 02, R-1, R-4, R-5 and R-6.
 use Prim.Native.Nat.{ℕ, _-_}
-use mathlib.Core.Bool.{cond}
+use mathlib.Core.Bool.{true, cond}
 use mathlib.Core.List.{List, [], _∷_, map}
 use lib.Dec.{eqb, ltb}
 use lib.ListN.{length}
@@ -13,9 +13,11 @@ use Rattle.refusal.specs.Numbers.{listingOf, unrefused}
 use Rattle.refusal.specs.Checks.{unless, inOrder}
 use Rattle.password.specs.PhraseAndSeed.{seedChecked}
 use Rattle.password.specs.Algorithm.{numbered, algorithmChecked}
-use Rattle.password.specs.Password.{hash, bytesOf}
+use Rattle.password.specs.Password.{hash, bytesOf, numberOf}
 use Rattle.challenge.specs.Challenges.{challengeText, challengeWrittenBy}
 use Rattle.reply.specs.Reply.{readingOf}
+use Rattle.extended.specs.declared.reply_texts.ReplyText.{ReplyText}
+use Rattle.extended.specs.ReplyTexts.{replyTextOf, seedPart}
 use Rattle.line.specs.Line.{joined, left, ticked}
 use Rattle.port.specs.Port.{wrongly, wrongAnswer, rightly, cooled}
 use Rattle.table.specs.declared.Replied.{Replied}
@@ -126,15 +128,15 @@ unfoldable pub turnChecked : ℕ → State → Checked
 turnChecked port s =
     inOrder (portKnown port ∷ inLine port s ∷ inFront port s ∷ accountHeld (ownAccount port s) ∷ notUsedUp (ownAccount port s) ∷ [])
 
--- Challenge: 55, 59, 60, 58, 40. "Writes stored count less 1 and the seed", for the account's algorithm: the text, and the answer on
--- a buffer with so much room. The writer's own checks, 23, 24 and 13, fail in no table that calls make.
+-- Challenge: 55, 59, 60, 58, 40. "Writes stored count less 1 and the seed", for the account's algorithm; R-6: "writes ` ext` before
+-- its newline". The text, and the answer on a buffer with so much room. The writer's own checks, 23, 24 and 13, fail in no table that calls make.
 abbrev pub challengeFor : ℕ → State → List ℕ
-challengeFor port s = challengeText (ownAccount port s .algorithm) (ownAccount port s .seed) (ownAccount port s .count - 1)
+challengeFor port s = challengeText true (ownAccount port s .algorithm) (ownAccount port s .seed) (ownAccount port s .count - 1)
 
 unfoldable pub challenge : ℕ → ℕ → State → Written
 challenge port room s =
     unless Written.Refused (turnChecked port s)
-    (challengeWrittenBy (ownAccount port s .algorithm) (ownAccount port s .seed) (ownAccount port s .count - 1) room)
+    (challengeWrittenBy true (ownAccount port s .algorithm) (ownAccount port s .seed) (ownAccount port s .count - 1) room)
 
 -- "Hash the password once", by the account's present algorithm. "If it equals the stored one" the account becomes `next`, the
 -- port's wrong run is cleared and "the port leaves; the answer has the new count. If not: the port leaves and its wrong run
@@ -161,13 +163,9 @@ abbrev pub read : State → Reading → (ℕ → After Replied) → After Replie
 read s (Reading.Password password) next = next password
 read s (Reading.Refused why) next = replyRefused s why
 
--- Reply: 55, 59, 60, 58, then 30 to 33. On a match "store the reply, lower the count by 1".
-unfoldable pub replyRead : ℕ → List ℕ → State → After Replied
-replyRead port text s =
-    read s (readingOf text) (λ password. offered port password (lowered (ownAccount port s) password) s)
-
-unfoldable pub reply : ℕ → List ℕ → State → After Replied
-reply port text s = unless (replyRefused s) (turnChecked port s) (replyRead port text s)
+-- Reply, by what the present password is read as. On a match "store the reply, lower the count by 1".
+unfoldable pub loginRead : ℕ → Reading → State → After Replied
+loginRead port present s = read s present (λ password. offered port password (lowered (ownAccount port s) password) s)
 
 -- Renew: 55, 59, 60, 58, 51, 21, 23, 24, 63, then 30 to 33, "then as Reply, but on a match the account takes the new count,
 -- seed and password"; R-1: "renewal may change" the algorithm; R-5: the seeds before the new one are remembered, eight in all.
@@ -175,13 +173,29 @@ unfoldable pub renewChecked : ℕ → ℕ → ℕ → List ℕ → State → Che
 renewChecked port number count seed s =
     inOrder (turnChecked port s ∷ countWithin count ∷ algorithmChecked (numbered number) ∷ seedChecked seed ∷ seedOther seed (ownAccount port s) ∷ [])
 
-unfoldable pub renewRead : ℕ → ℕ → ℕ → List ℕ → List ℕ → List ℕ → State → After Replied
-renewRead port number count seed new text s =
-    read s (readingOf text) (λ password. offered port password (renewedRoom (ownAccount port s) number count seed new) s)
+-- By what the new password is read as, and the present one after it.
+unfoldable pub renewRead : ℕ → ℕ → ℕ → List ℕ → Reading → Reading → State → After Replied
+renewRead port number count seed new present s =
+    read s new (λ next. read s present (λ password. offered port password (renewedRoom (ownAccount port s) number count seed next) s))
 
+unfoldable pub renewal : ℕ → ℕ → ℕ → List ℕ → Reading → Reading → State → After Replied
+renewal port number count seed new present s =
+    unless (replyRefused s) (renewChecked port number count seed s) (renewRead port number count seed new present s)
+
+-- The new password is given as "eight bytes". R-6: "Renew's text stays plain".
 unfoldable pub renew : ℕ → ℕ → ℕ → List ℕ → List ℕ → List ℕ → State → After Replied
-renew port number count seed new text s =
-    unless (replyRefused s) (renewChecked port number count seed s) (renewRead port number count seed new text s)
+renew port number count seed new text s = renewal port number count seed (Reading.Password (numberOf new)) (readingOf text) s
+
+-- Reply: 55, 59, 60, 58, then 30 to 33. R-6: 30, 34, 35, and for the `init` types, which "do what Renew does", "51 (or no number), 21, 23, 24, 63 for
+-- the parameters, then 31 to 33 for the new password and after it for the present one". What the text says is `extended`'s, and looks at no table;
+-- the turn's checks, which Renew has too, have found nothing wrong by then.
+unfoldable pub replyBy : ℕ → List ℕ → ReplyText → State → After Replied
+replyBy port text (ReplyText.Login present) s = loginRead port present s
+replyBy port text (ReplyText.Renewal number count start len new present) s = renewal port number count (seedPart text start len) new present s
+replyBy port text (ReplyText.Refused why) s = replyRefused s why
+
+unfoldable pub reply : ℕ → List ℕ → State → After Replied
+reply port text s = unless (replyRefused s) (turnChecked port s) (replyBy port text (replyTextOf text) s)
 
 -- Tick: "each shut count above 0 falls by 1; then", R-4, "the turn of every line that isn't empty", and "at 0 the front port leaves".
 unfoldable pub tick : State → State

@@ -36,12 +36,17 @@ isBlank b = eqb b 32 || eqb b 9
 abbrev pub inToken : ℕ → Bool
 inToken b = not (isBlank b || eqb b 10)
 
+-- 02, R-6, and RFC 2243: colons part an extended reply: a byte of a part
+abbrev pub inPart : ℕ → Bool
+inPart b = not (eqb b 58)
+
 -- b is a byte of that kind
 abbrev pub ofKind : Kind → ℕ → Bool
 ofKind Kind.White b = isWhite b
 ofKind Kind.Solid b = isSolid b
 ofKind Kind.Blank b = isBlank b
 ofKind Kind.Token b = inToken b
+ofKind Kind.Part b = inPart b
 ofKind Kind.Digit b = isDigit b
 ofKind Kind.Letter b = isLetter b
 ofKind Kind.LetterOrDigit b = isLetter b || isDigit b

@@ -5,13 +5,13 @@ use mathlib.Core.Bool.{Bool, true, false, cond, not, _&&_}
 use mathlib.Core.List.{List, [], _∷_, _++_, append-nil}
 use native.Mathlib.Omega.{arith}
 use native.Mathlib.Numerals.{add-one}
-use lib.ListN.{length, getD, take, drop, length-take, drop-of-length-le}
-use lib.Seq.{drop-cons, append-snoc, take-length, drop-length, take-append-seam, drop-append-seam}
+use lib.ListN.{length, getD, take, drop, length-take, length-drop, drop-of-length-le}
+use lib.Seq.{length-take-le, drop-cons, append-snoc, take-length, drop-length, take-append-seam, drop-append-seam}
 use lib.Dec.{eqb, eqb·suc-suc, eqb·zero-suc}
 use borrow.Author.Tests.{not-true}
 use Rattle.text.specs.Tests.{every, either, both}
 use Rattle.text.specs.Kinds.{isWhite, isSolid}
-use Rattle.text.specs.Scan.{runOf, piece, parted, tokens, unspaced}
+use Rattle.text.specs.Scan.{runOf, stretch, piece, parted, tokens, unspaced}
 
 -- a run past the end is empty
 pub run-past : (test : ℕ → Bool) (s : List ℕ) (i : ℕ) → length s ≤ i → runOf test (drop i s) ≡ 0
@@ -33,6 +33,14 @@ pub run-within : (test : ℕ → Bool) (s : List ℕ) → runOf test s ≤ lengt
 unfolding runOf
 run-within test [] = zero-le
 run-within test (b ∷ s) = either (λ (n : ℕ). n ≤ suc (length s)) (test b) (λ e. suc-le-suc (run-within test s)) (λ e. zero-le)
+
+-- a run from within the text ends within it
+pub run-ends-within : (test : ℕ → Bool) (s : List ℕ) (at : ℕ) → at ≤ length s → at + runOf test (drop at s) ≤ length s
+run-ends-within test s at h = omega (arith, run-within test (drop at s), length-drop at s)
+
+-- a stretch is as long as its run
+pub stretch-length : (test : ℕ → Bool) (s : List ℕ) (at : ℕ) → length (stretch test s at) ≡ runOf test (drop at s)
+stretch-length test s at = length-take-le (runOf test (drop at s)) (drop at s) (run-within test (drop at s))
 
 -- each byte of a run passes the test
 pub run-every : (test : ℕ → Bool) (s : List ℕ) → every test (take (runOf test s) s) ≡ true

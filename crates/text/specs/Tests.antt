@@ -75,6 +75,10 @@ same-equal (a ∷ s) (b ∷ t) e =
     let halves = both (eqb a b) (same s t) e in
     ap₂ (λ (x : ℕ) (l : List ℕ). x ∷ l) (eqb-true a b (halves .0)) (same-equal s t (halves .1))
 
+-- texts of different lengths are not the same
+pub same-lengths : (s t : List ℕ) → (length s ≡ length t → ⊥) → same s t ≡ false
+same-lengths s t h = cases (same s t) (λ e. absurd (h (ap length (same-equal s t e)))) (λ e. e)
+
 pub same-self : (s : List ℕ) → same s s ≡ true
 unfolding same
 same-self [] = refl

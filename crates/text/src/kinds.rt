@@ -8,6 +8,7 @@ pub enum Kind {
     Solid, // of a reply: all but those
     Blank, // of a challenge: space, tab
     Token, // of a challenge: all but space, tab, newline
+    Part, // of an extended reply: all but a colon
     Digit,
     Letter,
     LetterOrDigit,

@@ -4,7 +4,8 @@ use mathlib.Core.List.{List}
 use Rattle.refusal.specs.declared.Refusal.{Refusal}
 use Rattle.refusal.specs.declared.Reading.{Reading}
 use Rattle.refusal.specs.Checks.{unless}
-use Rattle.reply.specs.Reply.{readingOf}
+use Rattle.extended.specs.declared.reply_texts.ReplyText.{ReplyText}
+use Rattle.extended.specs.ReplyTexts.{replyTextOf, seedPart}
 use Rattle.accounts.specs.Rooms.{Room}
 use Rattle.accounts.specs.Accounts.{renewedRoom, lowered, valuesChecked}
 use Rattle.table.specs.declared.Replied.{Replied}
@@ -20,19 +21,27 @@ abbrev pub read : Seen → Reading → (ℕ → Said) → Said
 read t (Reading.Password password) next = next password
 read t (Reading.Refused why) next = refused t why
 
-unfoldable pub replyRead : List ℕ → Seen → Said
-replyRead text t = read t (readingOf text) (λ password. offered password (lowered (t .account) password) t)
+unfoldable pub loginRead : Reading → Seen → Said
+loginRead present t = read t present (λ password. offered password (lowered (t .account) password) t)
+
+-- What is done with the present password, where it is known what the account becomes.
+unfoldable pub becomesRead : Reading → Room → Seen → Said
+becomesRead present next t = read t present (λ password. offered password next t)
+
+-- A renewal, of a port whose turn's checks found nothing wrong.
+unfoldable pub renewValues : ℕ → ℕ → List ℕ → Reading → Reading → Seen → Said
+renewValues number count seed new present t =
+    unless (refused t) (valuesChecked number count seed (t .account))
+    (read t new (λ next. becomesRead present (renewedRoom (t .account) number count seed next) t))
+
+unfoldable pub renewed : ℕ → ℕ → List ℕ → Reading → Reading → Seen → Said
+renewed number count seed new present t = unless (refused t) (t .checked) (renewValues number count seed new present t)
+
+-- Reply, by what its text says.
+unfoldable pub replyBy : List ℕ → ReplyText → Seen → Said
+replyBy text (ReplyText.Login present) t = loginRead present t
+replyBy text (ReplyText.Renewal number count start len new present) t = renewed number count (seedPart text start len) new present t
+replyBy text (ReplyText.Refused why) t = refused t why
 
 unfoldable pub replied : List ℕ → Seen → Said
-replied text t = unless (refused t) (t .checked) (replyRead text t)
-
-unfoldable pub renewRead : List ℕ → Room → Seen → Said
-renewRead text next t = read t (readingOf text) (λ password. offered password next t)
-
--- Renew, of a port whose turn's checks found nothing wrong.
-unfoldable pub renewValues : ℕ → ℕ → List ℕ → List ℕ → List ℕ → Seen → Said
-renewValues number count seed new text t =
-    unless (refused t) (valuesChecked number count seed (t .account)) (renewRead text (renewedRoom (t .account) number count seed new) t)
-
-unfoldable pub renewed : ℕ → ℕ → List ℕ → List ℕ → List ℕ → Seen → Said
-renewed number count seed new text t = unless (refused t) (t .checked) (renewValues number count seed new text t)
+replied text t = unless (refused t) (t .checked) (replyBy text (replyTextOf text) t)

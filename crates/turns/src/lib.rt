@@ -8,6 +8,9 @@ ghost use Rattle.table.specs.Table.{view, freshPort};
 ghost use Rattle.table.specs.Steps as steps;
 ghost use Rattle.table.specs.declared.Replied.{Replied};
 ghost use Rattle.refusal.specs.declared.Refusal.{Refusal};
+ghost use Rattle.refusal.specs.declared.Reading.{Reading};
+ghost use Rattle.extended.specs.declared.reply_texts.ReplyText.{ReplyText};
+ghost use Rattle.extended.specs.ReplyTexts.{replyTextOf};
 ghost use Rattle.turns.specs.TurnPart.{seen, seenBy, outcome, after};
 use crate::offering::Outcome;
 use crate::offering::TurnPart;
@@ -16,8 +19,10 @@ use crate::replying::replied;
 use crate::turn_checks::check_turn;
 use accounts::lowered::write_challenge;
 use line::room_of;
+use password::eight_bytes::number_of;
 use port::Port;
 use refusal::Checked;
+use refusal::Reading;
 use refusal::Written;
 use table::Answered;
 use table::Table;
@@ -107,14 +112,16 @@ pub fn challenge(table: Table, port: u8, buf: &mut [u8]) -> Written
     write_challenge(account, buf)
 }
 
-pub fn reply(table: Table, port: u8, text: &[u8]) -> Answered
-    ensures { λ r. ⌜ ((older : List ℕ) → steps.answered r older ≡ steps.reply port (now (text .entry)) (view table older)) ⌝ }
+// The older seeds are lent: a reply may be a renewal, and an accepted one changes those of its account. A refusal and a login leave them alone.
+pub fn reply(table: Table, older: &mut [u8; 3808], port: u8, text: &[u8]) -> Answered
+    ensures answered { λ r. ⌜ steps.answered r (now (older .exit)) ≡ steps.reply port (now (text .entry)) (view table (now (older .entry))) ⌝ }
+    ensures left { λ r. ⌜ ((why : Refusal) → r .answer ≡ Replied.Refused why → now (older .exit) ≡ now (older .entry)) ⌝ }
+    ensures kept { λ _. ⌜ ((present : Reading) → replyTextOf (now (text .entry)) ≡ ReplyText.Login present → now (older .exit) ≡ now (older .entry)) ⌝ }
 {
-    let made = replied(turn_of(table, port), text);
+    let made = replied(turn_of(table, port), older, text);
     put_back(table, port, made)
 }
 
-// The older seeds are lent: an accepted renewal changes those of its account.
 pub fn renew(
     table: Table,
     older: &mut [u8; 3808],
@@ -129,14 +136,15 @@ pub fn renew(
         ≡ steps.renew port algorithm count (now (seed .entry)) (now (password .entry)) (now (text .entry)) (view table (now (older .entry))) ⌝ }
     ensures left { λ r. ⌜ ((why : Refusal) → r .answer ≡ Replied.Refused why → now (older .exit) ≡ now (older .entry)) ⌝ }
 {
+    let new = Reading::Password(number_of(*password));
     let made = renewed(
         turn_of(table, port),
         older,
         algorithm,
         count,
         seed,
-        password,
-        text,
+        new,
+        reply::read(text),
     );
     put_back(table, port, made)
 }

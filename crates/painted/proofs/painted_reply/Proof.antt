@@ -6,10 +6,10 @@ use Rattle.painted.proofs.painted_reply.Statement.{statement}
 use Rattle.painted.proofs.painted_reply.Tie as tie
 
 abbrev Inv-loop : tie.InvT-loop
-Inv-loop times room algorithm stored port text table₀ number₀ k₀ table number k = k ≤ times
+Inv-loop times room algorithm stored port text older₀ table₀ number₀ k₀ older table number k = k ≤ times
 
 abbrev μ-loop : tie.MeasureT-loop
-μ-loop times room algorithm stored port text table₀ number₀ k₀ table number k = times - k
+μ-loop times room algorithm stored port text older₀ table₀ number₀ k₀ older table number k = times - k
 
 pub painted-reply-spec : {M : Type 1} → statement M
 painted-reply-spec =

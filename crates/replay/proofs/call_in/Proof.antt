@@ -12,4 +12,6 @@ call-in-spec =
     (λ c κs. search needs)
     (λ c. simp length-take (omega arith))
     (λ c κs. search needs)
+    (λ c κs. search needs)
+    (λ c. search needs)
     (λ c. search needs))

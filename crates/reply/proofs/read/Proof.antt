@@ -12,11 +12,11 @@ read-spec =
     (λ c κs. search needs)
     (λ c κs. search needs)
     (λ c.
-    as-words (c .before .before .before .before .before .before .args .text .now) (c .before .before .before .before .if1 .left)
-    (c .before .before .before .six-words .result) (c .before .before .before .six-words .ensures) (c .read-words .result)
-    (c .before .before .if2 .taken) (c .read-words .ensures))
+    let six = c .before .before .before in
+    as-words (six .before .before .before .args .text .now) (six .six-words .result) (six .six-words .ensures) (six .before .if1 .left)
+    (c .read-words .result) (c .before .before .if2 .taken) (c .read-words .ensures))
     (λ c κs. search needs)
     (λ c.
-    as-hex (c .before .before .before .before .before .args .text .now) (c .before .before .before .if1 .left) (c .before .before .six-words .result)
-    (c .before .before .six-words .ensures) (c .read-hex .result)
-    (c .before .if2 .left) (c .read-hex .ensures)))
+    let six = c .before .before in
+    as-hex (six .before .before .before .args .text .now) (six .six-words .result) (six .six-words .ensures) (six .before .if1 .left)
+    (c .read-hex .result) (c .before .if2 .left) (c .read-hex .ensures)))

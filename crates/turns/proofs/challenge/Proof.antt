@@ -1,6 +1,7 @@
 -- `challenge` meets its promise: refused as the turn is, or what the writer answers and leaves.
 use Prim.Native.Nat.{_-_}
 use mathlib.Core.Path.{refl, sym, ap, _∙_}
+use mathlib.Core.Bool.{true}
 use borrow.Author.Needs.{needs}
 use lib.ListN.{length}
 use Rattle.text.specs.Put.{leaves}
@@ -29,13 +30,14 @@ returns-2 c =
     let b = a .buf .now in (
       λ older.
           wrote .write-challenge .ensures .0
-          ∙ ap (λ (t : Seen). challengeWrittenBy (t .account .algorithm) (t .account .seed) (t .account .count - 1) (length b)) (turned .turn-of .ensures older)
+          ∙ ap (λ (t : Seen). challengeWrittenBy true (t .account .algorithm) (t .account .seed) (t .account .count - 1) (length b))
+          (turned .turn-of .ensures older)
           ∙ sym (challenge-done _ (view (a .table) older) _
           (sym (ap (λ (t : Seen). t .checked) (turned .turn-of .ensures older)) ∙ told .enum-told .given .1)),
       λ older.
           wrote .write-challenge .ensures .1
           ∙ ap (λ (t : Seen). leaves (wrote .write-challenge .result)
-          (challengeText (t .account .algorithm) (t .account .seed) (t .account .count - 1)) b) (turned .turn-of .ensures older),
+          (challengeText true (t .account .algorithm) (t .account .seed) (t .account .count - 1)) b) (turned .turn-of .ensures older),
     )
 
 pub challenge-spec : {M : Type 1} → statement M

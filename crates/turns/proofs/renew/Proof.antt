@@ -6,29 +6,31 @@ use borrow.Author.Tests.{ltb-true}
 use native.Mathlib.Omega.{arith}
 use lib.ListN.{length}
 use Rattle.refusal.specs.declared.Checked.{Checked}
+use Rattle.refusal.specs.declared.Reading.{Reading}
 use Rattle.line.specs.Laws.{unmapped}
 use Rattle.table.specs.declared.Replied.{Replied}
 use Rattle.table.specs.Table.{view, standsAt}
+use Rattle.table.specs.Steps as steps
 use Rattle.table.specs.Steps.{After}
 use Rattle.table.specs.StepLaws.{turn-passed}
 use Rattle.table.specs.ViewLaws.{rooms-32}
 use Rattle.turns.specs.TurnPart.{Seen, Said, outcome, after}
 use Rattle.turns.specs.TurnPartLaws.{after-elsewhere}
 use Rattle.turns.specs.Replied as spec
-use Rattle.turns.specs.RepliedLaws.{after-renew}
+use Rattle.turns.specs.RepliedLaws.{after-renewal}
 use Rattle.turns.proofs.renew.Statement.{statement}
 use Rattle.turns.proofs.renew.Tie as tie
 
 all-rooms : (c : tie.Start) → length (c .args .table .rooms) ≡ 32
 all-rooms c = search (needs, unmapped)
 
-all-older : (c : tie.After-renewed-arg) → length (c .before .before .before .before .args .older .now) ≡ 3808
+all-older : (c : tie.After-renewed-arg) → length (c .before .before .before .before .before .before .args .older .now) ≡ 3808
 all-older c = search needs
 
 -- A port whose turn is good stands in line for one of the rooms.
 inside : (c : tie.After-turn-of) → c .turn-of .result .checked ≡ Checked.Good → c .turn-of .result .place < 32
 inside c good =
-    let start = c .before .before .before in
+    let start = c .before .before .before .before .before in
     let a = start .args in
     let s = view (a .table) (a .older .now) in
     let found = c .turn-of .ensures (a .older .now) in
@@ -37,20 +39,26 @@ inside c good =
     omega (arith, stands, ap (λ (t : Seen). t .place) found, rooms-32 (a .table) (a .older .now) (all-rooms start))
 
 returns : tie.Need-returns
+unfolding steps.renew
 returns c =
     let done = c .before in
-    let turned = done .before .before in
-    let a = turned .before .before .before .args in
+    let read = done .before in
+    let turned = read .before .before in
+    let numbered = turned .before in
+    let a = numbered .before .before .before .before .args in
     let made = done .renewed .result in
     let older = a .older .now in
     let left = done .renewed .last .1 .0 in
     let s = view (a .table) older in
-    let does : Seen → Said = spec.renewed (a .algorithm) (a .count) (a .seed .now) (a .password .now) (a .text .now) in
+    let new = Reading.Password (numbered .number-of .result) in
+    let does : Seen → Said = spec.renewed (a .algorithm) (a .count) (a .seed .now) new (read .read .result) in
     let answer : c .put-back .result .answer ≡ made .answer = ap (λ (x : After Replied). x .answer) (c .put-back .ensures older) in (
       c .put-back .ensures left
           ∙ after-elsewhere (a .port) (a .table) older left (outcome made left) (done .renewed .ensures .1 .1)
           ∙ ap (after (a .port) s) (done .renewed .ensures .0 ∙ ap does (turned .turn-of .ensures older))
-          ∙ after-renew (a .port) s (a .algorithm) (a .count) (a .seed .now) (a .password .now) (a .text .now),
+          ∙ after-renewal (a .port) s (a .algorithm) (a .count) (a .seed .now) new (read .read .result)
+          ∙ (λ i. steps.renewal (a .port) (a .algorithm) (a .count) (a .seed .now) (Reading.Password (numbered .number-of .ensures i))
+          (read .read .ensures i) s),
       λ why e. done .renewed .ensures .1 .0 why (sym answer ∙ e),
     )
 
@@ -59,6 +67,8 @@ renew-spec =
     tie.close
     (tie.spec
     (λ c κs. search needs)
-    (λ c κs. (inside (c .before), all-older c))
+    (λ c κs. search needs)
+    (λ c κs. search needs)
+    (λ c κs. (inside (c .before .before), all-older (c .before)))
     (λ c κs. search needs)
     returns)

@@ -1,6 +1,7 @@
 -- `write_challenge` meets its promise: the writer is lent the account's seed and the buffer.
 use Prim.Native.Nat.{ℕ, _≤_}
 use mathlib.Core.Path.{_≡_, sym, ap₂, _∙_}
+use mathlib.Core.Bool.{true}
 use mathlib.Core.List.{List}
 use borrow.Author.Needs.{needs}
 use native.Mathlib.Omega.{arith}
@@ -27,8 +28,8 @@ returns c =
     let seed = all-taken (counted .before .seed-len .result) (a .account .len) (a .account .seed) (counted .before .seed-len .ensures .0) in
     let algorithm = a .account .algorithm in
     let count = counted .count-below .ensures in (
-      wrote .write-by .ensures .0 ∙ ap₂ (λ (s : List ℕ) (n : ℕ). challengeWrittenBy algorithm s n (length (a .buf .now))) seed count,
-      wrote .write-by .ensures .1 ∙ ap₂ (λ (s : List ℕ) (n : ℕ). leaves (wrote .write-by .result) (challengeText algorithm s n) (a .buf .now)) seed count,
+      wrote .write-by .ensures .0 ∙ ap₂ (λ (s : List ℕ) (n : ℕ). challengeWrittenBy true algorithm s n (length (a .buf .now))) seed count,
+      wrote .write-by .ensures .1 ∙ ap₂ (λ (s : List ℕ) (n : ℕ). leaves (wrote .write-by .result) (challengeText true algorithm s n) (a .buf .now)) seed count,
     )
 
 pub write-challenge-spec : {M : Type 1} → statement M

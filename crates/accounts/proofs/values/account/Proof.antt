@@ -12,17 +12,17 @@ use Rattle.accounts.proofs.values.account.Tie as tie
 
 returns : tie.Need-returns
 returns c part =
-    let a = c .before .before .before .before .before .before .before .args in
-    let put = c .before .before .before .before .put-lower .ensures in
+    let a = c .before .before .before .before .before .args in
+    let put = c .before .before .put-lower .ensures in
     let seed = ap₂ (λ (n : ℕ) (l : List ℕ). take n l) (put .0) (put .1) ∙ take-at (map lowerOf (a .seed .now)) _ _ refl in
     λ i. record {
       id = a .id;
-      algorithm = c .before .before .algorithm-of .ensures i;
+      algorithm = c .algorithm-of .ensures i;
       seed = seed i;
       older = take (a .older-count) (inPlaces 7 part);
       count = a .count;
-      password = c .number-of .ensures i;
+      password = a .password;
     }
 
 pub account-spec : {M : Type 1} → statement M
-account-spec = tie.close (tie.spec (λ c. search needs) (λ c κs. search needs) (λ c κs. search needs) (λ c κs. search needs) returns)
+account-spec = tie.close (tie.spec (λ c. search needs) (λ c κs. search needs) (λ c κs. search needs) returns)

@@ -19,7 +19,7 @@ returns : tie.Need-returns
 returns c =
     let checked = c .before .before in
     let a = checked .before .before .before .args in
-    let room = renewedRoom (roomOf (a .present) (partOf (a .older .now) (a .room))) (a .algorithm) (a .count) (a .seed .now) (a .password .now) in
+    let room = renewedRoom (roomOf (a .present) (partOf (a .older .now) (a .room))) (a .algorithm) (a .count) (a .seed .now) (a .password) in
     none-proposed _ _ _ room (checked .check-values .ensures) (c .enum-told .given .1)
 
 returns-2 : tie.Need-returns-2
@@ -35,7 +35,7 @@ returns-2 c =
     ∙ pushed-older (a .present) part (sixteen start) in
     room-proposed _ _ _ _ (checked .check-values .ensures) (told .enum-told2 .given .1)
     (c .account .ensures (partOf (remembering (a .room) (a .present) (a .older .now)) (a .room))
-    ∙ ap (λ (seeds : List (List ℕ)). withValues (a .present .id) seeds (a .algorithm) (a .count) (a .seed .now) (a .password .now)) older)
+    ∙ ap (λ (seeds : List (List ℕ)). withValues (a .present .id) seeds (a .algorithm) (a .count) (a .seed .now) (a .password)) older)
 
 pub renewal-spec : {M : Type 1} → statement M
 renewal-spec =

@@ -2,6 +2,7 @@
 use borrow.Author.Needs.{needs}
 use Prim.Native.Nat.{ℕ}
 use mathlib.Core.Path.{_≡_, sym, _∙_}
+use mathlib.Core.Bool.{Bool}
 use mathlib.Core.List.{List}
 use Rattle.refusal.specs.declared.Refusal.{Refusal}
 use Rattle.refusal.specs.declared.Checked.{Checked}
@@ -24,10 +25,10 @@ module _ (phrase challenge : List ℕ) (k : ℕ) where
     unfolding countAsked cardChecked
     refused-challenge why f = rw (e, f)
 
-    counted : (algorithm : Algorithm) (n s l u : ℕ) → challengeOf challenge ≡ Challenge.Read algorithm n s l u
+    counted : (algorithm : Algorithm) (n s l u : ℕ) (x : Bool) → challengeOf challenge ≡ Challenge.Read algorithm n s l u x
         → linesCounted k n ≡ countAsked phrase challenge k
     unfolding countAsked cardChecked
-    counted algorithm n s l u f = rw (e, f)
+    counted algorithm n s l u x f = rw (e, f)
 
 good-phrase : (c : tie.After-enum-told) → phraseChecked (c .before .before .before .before .before .args .phrase .now) ≡ Checked.Good
 good-phrase c = sym (c .before .before .check-phrase .ensures) ∙ c .enum-told .given .1
@@ -36,7 +37,7 @@ returns-2 : tie.Need-returns-2
 returns-2 c =
     let told = c .before in
     c .lines-counted .ensures
-    ∙ counted _ _ _ (good-phrase (told .before .before .before .before)) _ _ _ _ _ (sym (told .before .before .before .read .ensures)
+    ∙ counted _ _ _ (good-phrase (told .before .before .before .before)) _ _ _ _ _ _ (sym (told .before .before .before .read .ensures)
     ∙ told .before .count .given .1)
 
 pub count-asked-spec : {M : Type 1} → statement M

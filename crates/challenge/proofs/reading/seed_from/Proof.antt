@@ -8,9 +8,8 @@ use native.Mathlib.Omega.{arith}
 use lib.ListN.{length, drop}
 use Rattle.refusal.specs.declared.Checked.{Checked}
 use Rattle.password.specs.PhraseAndSeed.{seedChecked}
-use Rattle.challenge.specs.declared.reading.Challenge.{Challenge}
 use Rattle.challenge.specs.Challenges.{tokenAt, endOf, terminated}
-use Rattle.challenge.specs.Laws.{token-within, stop4, stop5, all-good}
+use Rattle.challenge.specs.Laws.{token-within, terminated-within, stop4, stop5, all-good}
 use Rattle.challenge.proofs.reading.seed_from.Statement.{statement}
 use Rattle.challenge.proofs.reading.seed_from.Tie as tie
 
@@ -49,12 +48,17 @@ returns-2 c =
     let at = seed (c .before .before) in
     sym (stop5 (text at) _ _ (start at) (good (c .before)) (sym (ended (c .before)) ∙ not-true _ (c .if1 .taken)))
 
+read-requires : tie.Need-read-from-requires
+read-requires c κs =
+    let at = seed (c .before .before) in
+    let end = terminated-within (text at) (endOf (text at) (start at)) (sym (ended (c .before)) ∙ not-false _ (c .if1 .left)) in
+    (at .before .before .pre, ap length (at .token .ensures), omega (arith, ap length (at .token .ensures), end))
+
 returns-3 : tie.Need-returns-3
 returns-3 c =
-    let at = seed (c .before .before) in
-    let a = at .before .before .args in
-    ap (λ (t : List ℕ). Challenge.Read (a .algorithm) (a .count) (start at) (length t) (start at + length t + 1)) (at .token .ensures)
-    ∙ sym (all-good (text at) _ _ (start at) (good (c .before)) (sym (ended (c .before)) ∙ not-false _ (c .if1 .left)))
+    let else1 = c .before in
+    let at = seed (else1 .before .before) in
+    c .read-from .ensures ∙ sym (all-good (text at) _ _ (start at) (good (else1 .before)) (sym (ended (else1 .before)) ∙ not-false _ (else1 .if1 .left)))
 
 pub seed-from-spec : {M : Type 1} → statement M
 seed-from-spec =
@@ -68,5 +72,5 @@ seed-from-spec =
     (λ c. omega (arith, end-within c))
     (λ c κs. search needs)
     returns-2
-    (λ c. omega (arith, end-within (c .before .before), seed (c .before .before) .before .before .good .0 .1))
+    read-requires
     returns-3)

@@ -2,6 +2,7 @@
 use borrow.Author.Needs.{needs}
 use Prim.Native.Nat.{ℕ, _+_, _-_, _≤_}
 use mathlib.Core.Path.{_≡_, refl, sym, _∙_, ap}
+use mathlib.Core.Bool.{Bool}
 use mathlib.Core.List.{List, []}
 use native.Mathlib.Omega.{arith}
 use native.Mathlib.Nat.{zero-add}
@@ -14,9 +15,9 @@ use Rattle.challenge.specs.Laws.{part-within}
 use Rattle.challenge.proofs.reading.seed_of.Statement.{statement}
 use Rattle.challenge.proofs.reading.seed_of.Tie as tie
 
-part : (text : List ℕ) (algorithm : Algorithm) (n s l u o : ℕ) → challengeOf text ≡ Challenge.Read algorithm n s l u
+part : (text : List ℕ) (algorithm : Algorithm) (n s l u o : ℕ) (x : Bool) → challengeOf text ≡ Challenge.Read algorithm n s l u x
     → (take (s + l - s) (drop s text) ≡ seedOf text) × (s + o ≡ startOf (challengeOf text) + o)
-part text algorithm n s l u o e =
+part text algorithm n s l u o x e =
     let back : s + l - s ≡ l = omega arith in (
       ap (λ (k : ℕ). take k (drop s text)) back ∙ sym (ap (λ (r : Challenge). take (lengthOf r) (drop (startOf r) text)) e),
       sym (ap (λ (r : Challenge). startOf r + o) e),
@@ -31,13 +32,13 @@ none text why o e = (
 
 within : (c : tie.After-known-told) → c .before .start .given .0 .1 .1 .0 + c .before .start .given .0 .1 .1 .1 .0
     ≤ length (c .before .before .before .before .before .args .text .now)
-within c = part-within _ _ _ _ _ (c .before .before .before .before .before .args .text .now)
+within c = part-within _ _ _ _ _ _ (c .before .before .before .before .before .args .text .now)
     (sym (c .before .before .before .read .ensures) ∙ c .before .start .given .1)
 
 returns : tie.Need-returns
 returns c =
     let at = c .before .before .before .before in
-    let e = part (at .before .before .args .text .now) _ _ _ _ _ _ (sym (at .read .ensures) ∙ c .before .before .start .given .1) in
+    let e = part (at .before .before .args .text .now) _ _ _ _ _ _ _ (sym (at .read .ensures) ∙ c .before .before .start .given .1) in
     (e .0, refl, e .1)
 
 returns-2 : tie.Need-returns-2

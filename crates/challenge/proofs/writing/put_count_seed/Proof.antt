@@ -6,6 +6,7 @@ use Rattle.text.specs.Kinds.{lowerOf}
 use Rattle.text.specs.PutLaws.{then-put, front-within}
 use Rattle.text.specs.Counts.{decimalOf}
 use Rattle.text.specs.CountLaws.{length-count}
+use Rattle.challenge.specs.Challenges.{ending}
 use Rattle.challenge.proofs.writing.put_count_seed.Statement.{statement}
 use Rattle.challenge.proofs.writing.put_count_seed.Tie as tie
 
@@ -14,7 +15,7 @@ returns c =
     let second = c .before .before in
     let first = second .before .before .before .before in
     let a = first .before .before .before .before .args in
-    then-put (decimalOf (a .count) ++ 32 ∷ []) (map lowerOf (a .seed .now) ++ 10 ∷ [])
+    then-put (decimalOf (a .count) ++ 32 ∷ []) (map lowerOf (a .seed .now) ++ ending (a .ext))
     (a .buf .now) _ _ _ _ (first .put-count-and .ensures) (second .put-seed .ensures)
 
 pub put-count-seed-spec : {M : Type 1} → statement M

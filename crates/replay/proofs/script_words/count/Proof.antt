@@ -5,10 +5,10 @@ use Rattle.replay.proofs.script_words.count.Statement.{statement}
 use Rattle.replay.proofs.script_words.count.Tie as tie
 
 abbrev Inv-loop : tie.InvT-loop
-Inv-loop call n₀ n = n ≤ 6
+Inv-loop call n₀ n = n ≤ 7
 
 abbrev μ-loop : tie.MeasureT-loop
-μ-loop call n₀ n = 6 - n
+μ-loop call n₀ n = 7 - n
 
 pub count-spec : {M : Type 1} → statement M
 count-spec =

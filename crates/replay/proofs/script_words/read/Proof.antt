@@ -12,12 +12,12 @@ use Rattle.replay.proofs.script_words.read.Tie as tie
 abbrev Inv-loop : tie.InvT-loop
 Inv-loop line₀ call starts₀ ends₀ numbers₀ n at₀ k₀ line starts ends numbers at k =
     (k ≤ n)
-    × (n ≤ 6)
+    × (n ≤ 7)
     × (length line ≡ length line₀)
     × (at ≤ length line₀)
-    × (length starts ≡ 6)
-    × (length ends ≡ 6)
-    × (length numbers ≡ 6)
+    × (length starts ≡ 7)
+    × (length ends ≡ 7)
+    × (length numbers ≡ 7)
     × Inside starts ends (length line₀)
 
 abbrev μ-loop : tie.MeasureT-loop

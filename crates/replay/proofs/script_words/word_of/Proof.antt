@@ -31,6 +31,9 @@ word-of-spec =
     (λ c κs. search needs)
     (λ c. search needs)
     (λ c κs. search needs)
+    (λ c κs. search needs)
+    (λ c. search needs)
+    (λ c κs. search needs)
     (λ c. search needs)
     (λ c. let t = c .before .before .before in
     let a = t .before .before .before .before .before .args in
@@ -61,5 +64,10 @@ word-of-spec =
     let a = t .before .before .before .args in
     said (a .kind) Kind.Ticks (a .word .now) (c .of-number5 .result) (t .enum-told6 .given .1) (c .of-number5 .ensures
     ∙ ap ofNumber (c .before .number-in4 .ensures)))
+    (λ c. search needs)
+    (λ c. let t = c .before .before .before in
+    let a = t .before .before .before .args in
+    said (a .kind) Kind.Type (a .word .now) (c .of-number6 .result) (t .enum-told7 .given .1) (c .of-number6 .ensures
+    ∙ ap ofNumber (c .before .type-in .ensures)))
     (λ c. let a = c .before .before .before .before .args in
-    said (a .kind) Kind.No (a .word .now) (c .of-number6 .result) (c .before .enum-told7 .given .1) (c .of-number6 .ensures)))
+    said (a .kind) Kind.No (a .word .now) (c .of-number7 .result) (c .before .enum-told8 .given .1) (c .of-number7 .ensures)))

@@ -24,6 +24,7 @@ of-kind-spec =
     (λ c. search needs)
     (λ c. search needs)
     (λ c. search needs)
+    (λ c. search needs)
     (λ c κs. search needs)
     (λ c. search needs)
     (λ c κs. search needs)
@@ -32,7 +33,8 @@ of-kind-spec =
     (λ c. arm _ _ _ _ (c .enum-told3 .given .1) refl)
     (λ c. arm _ _ _ _ (c .enum-told4 .given .1) refl)
     (λ c. arm _ _ _ _ (c .enum-told5 .given .1) refl)
-    (λ c. arm _ _ _ _ (c .before .enum-told6 .given .1) (c .is-letter .ensures))
+    (λ c. arm _ _ _ _ (c .enum-told6 .given .1) refl)
+    (λ c. arm _ _ _ _ (c .before .enum-told7 .given .1) (c .is-letter .ensures))
     (λ c.
     let b = c .before .before .before .args .b in
-    arm _ _ _ _ (c .before .enum-told7 .given .1) (ap (λ (l : Bool). l || isDigit b) (c .is-letter2 .ensures))))
+    arm _ _ _ _ (c .before .enum-told8 .given .1) (ap (λ (l : Bool). l || isDigit b) (c .is-letter2 .ensures))))

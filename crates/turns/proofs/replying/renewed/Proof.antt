@@ -18,15 +18,15 @@ sixteen : (c : tie.Start) → length (c .args .turn .account .seed) ≡ 16
 sixteen c = search needs
 
 abbrev from : tie.After-enum-told → tie.Start
-from c = c .before .before .before .before .before
+from c = c .before .before .before .before
 
 returns : tie.Need-returns
 unfolding spec.renewed
 returns c =
     let known = c .before .before in
-    let a = known .before .before .before .before .before .args in
+    let a = known .before .before .before .before .args in
     let t = seen (a .turn) (a .older .now) in
-    let values = spec.renewValues (a .algorithm) (a .count) (a .seed .now) (a .password .now) (a .text .now) t in (
+    let values = spec.renewValues (a .algorithm) (a .count) (a .seed .now) (a .new) (a .present) t in (
       c .stays .ensures (a .older .now) ∙ first-refused (refused t) _ _ values (known .checked .given .1),
       (λ why e. refl, λ room d. refl),
     )
@@ -42,10 +42,10 @@ returns-2 c =
     let older = a .older .now in
     let t = seen (a .turn) older in
     let made = done .renew-values .result in
-    let values = spec.renewValues (a .algorithm) (a .count) (a .seed .now) (a .password .now) (a .text .now) t in
+    let values = spec.renewValues (a .algorithm) (a .count) (a .seed .now) (a .new) (a .present) t in
     let place : made .place ≡ a .turn .place =
     ap (λ (o : Said). o .place) (done .renew-values .ensures)
-    ∙ renewed-place (a .algorithm) (a .count) (a .seed .now) (a .password .now) (a .text .now) t in (
+    ∙ renewed-place (a .algorithm) (a .count) (a .seed .now) (a .new) (a .present) t in (
       ap (outcome made) (kept .keep-seed .ensures) ∙ done .renew-values .ensures ∙ first-good (refused t) _ values (told .enum-told .given .1),
       (
         λ why e. kept .keep-seed .ensures ∙ ap (λ (r : Replied). olderAfter r older (remembering (a .turn .place) (a .turn .account) older)) e,

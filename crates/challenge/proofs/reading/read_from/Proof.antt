@@ -1,0 +1,76 @@
+-- `read_from` meets its promise: whether the token after the seed is the mark, and ended as a seed is.
+use borrow.Author.Needs.{needs}
+use Prim.Native.Nat.{ℕ, _+_, _≤_}
+use mathlib.Core.Path.{_≡_, sym, _∙_, ap, ap₂}
+use mathlib.Core.Bool.{Bool, _&&_}
+use mathlib.Core.List.{List}
+use native.Mathlib.Omega.{arith}
+use lib.ListN.{length, drop}
+use Rattle.challenge.specs.declared.reading.Challenge.{Challenge}
+use Rattle.challenge.specs.Challenges.{tokenAt, endOf, terminated, isMark, markAt, hasMark}
+use Rattle.challenge.specs.Laws.{next-within, token-within, marked-used, unmarked-used}
+use Rattle.challenge.proofs.reading.read_from.Statement.{statement}
+use Rattle.challenge.proofs.reading.read_from.Tie as tie
+
+abbrev text : tie.Start → List ℕ
+text c = c .args .text .now
+
+abbrev start : tie.Start → ℕ
+start c = c .args .start
+
+abbrev from : tie.After-token → tie.Start
+from c = c .before .before .before
+
+mark-within : (c : tie.After-next) → c .next .result ≤ length (text (c .before .before))
+mark-within c = omega (arith, c .next .ensures, next-within (text (c .before .before)) (start (c .before .before)) (c .before .before .pre .0))
+
+-- The token after the seed, and where it ends.
+said : (c : tie.After-token) → c .token .result .now ≡ tokenAt (text (from c)) (markAt (text (from c)) (start (from c)))
+said c = c .token .ensures ∙ ap (tokenAt (text (from c))) (c .before .next .ensures)
+
+ends : (c : tie.After-token) → c .before .next .result + length (c .token .result .now) ≡ endOf (text (from c)) (markAt (text (from c)) (start (from c)))
+ends c = ap₂ (λ (k : ℕ) (t : List ℕ). k + length t) (c .before .next .ensures) (said c)
+
+end-within : (c : tie.After-token) → c .before .next .result + length (c .token .result .now) ≤ length (text (from c))
+end-within c = omega (arith, ap length (c .token .ensures), token-within (text (from c)) (c .before .next .result) (mark-within (c .before)))
+
+flag : (c : tie.After-is-terminated)
+    → (c .before .is-mark .result && c .is-terminated .result) ≡ hasMark (text (from (c .before .before))) (start (from (c .before .before)))
+unfolding hasMark
+flag c =
+    let at = c .before .before in
+    ap₂ (λ (a b : Bool). a && b) (c .before .is-mark .ensures ∙ ap isMark (said at))
+    (c .is-terminated .ensures ∙ ap (λ (k : ℕ). terminated (drop k (text (from at)))) (ends at))
+
+returns : tie.Need-returns
+returns c =
+    let at = c .before .before .before in
+    let a = from at .args in
+    let marked = sym (flag (c .before)) ∙ c .if1 .taken in
+    let used : at .before .next .result + length (at .token .result .now) + 1 ≡ _ =
+    ap (λ (k : ℕ). k + 1) (ends at) ∙ marked-used (text (from at)) (start (from at)) marked in
+    λ i. Challenge.Read (a .algorithm) (a .count) (a .start) (from at .pre .1 i) (used i) (sym marked i)
+
+returns-2 : tie.Need-returns-2
+returns-2 c =
+    let at = c .before .before .before in
+    let a = from at .args in
+    let unmarked = sym (flag (c .before)) ∙ c .if1 .left in
+    let used : a .start + a .len + 1 ≡ _ =
+    ap (λ (l : ℕ). a .start + l + 1) (from at .pre .1) ∙ unmarked-used (text (from at)) (start (from at)) unmarked in
+    λ i. Challenge.Read (a .algorithm) (a .count) (a .start) (from at .pre .1 i) (used i) (sym unmarked i)
+
+pub read-from-spec : {M : Type 1} → statement M
+read-from-spec =
+    tie.close
+    (tie.spec
+    (λ c κs. search needs)
+    (λ c κs. mark-within c)
+    (λ c. omega (arith, end-within c))
+    (λ c κs. search needs)
+    (λ c κs. search needs)
+    (λ c. omega (arith, end-within (c .before .before .before), from (c .before .before .before) .good .0 .1))
+    returns
+    (λ c. search needs)
+    (λ c. search needs)
+    returns-2)

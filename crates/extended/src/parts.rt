@@ -1,0 +1,42 @@
+// The parts of an extended reply: what stands between its colons.
+ghost use mathlib.Core.Path.{_≡_};
+ghost use Prim.Native.Nat.{_+_, _≤_};
+ghost use lib.ListN.{length};
+ghost use Rattle.extended.specs.ReplyTexts as spec;
+use text::kinds::Kind;
+use text::scan::stretch_at;
+
+// How many colons a text has.
+pub fn colons(text: &[u8]) -> usize
+    ensures { λ r. ⌜ (r ≡ spec.colons (now (text .entry))) × (r ≤ length (now (text .entry))) ⌝ }
+{
+    let mut n = 0;
+    let mut i = 0;
+    while i < text.len() {
+        let b = text[i];
+        i += 1;
+        if b != b':' {
+            continue;
+        }
+        n += 1;
+    }
+    n
+}
+
+// The part that starts at a place; nothing past the end.
+pub fn part(text: &[u8], at: usize) -> &[u8]
+    ensures { λ r. ⌜ now r ≡ spec.partAt (now (text .entry)) at ⌝ }
+{
+    if text.len() < at {
+        return &text[..0];
+    }
+    stretch_at(text, at, Kind::Part)
+}
+
+// Where the part after the one at a place starts.
+pub fn after(text: &[u8], at: usize) -> usize
+    requires { ⌜ (length (now text) ≤ 256) × (at ≤ length (now text) + 2) ⌝ }
+    ensures { λ r. ⌜ r ≡ spec.partAfter (now (text .entry)) at ⌝ }
+{
+    at + part(text, at).len() + 1
+}
