@@ -67,16 +67,17 @@ def refusals_can_fail(driver):
 def theorems_refused():
     """Two theorems made wrong in one edit, of which each is refused; one isn't, or only for what it cites. A definition beside them, for which another
     theorem is refused, or none is; and two definitions."""
-    sums, seeds = ("specs/Demand3.antt", "TurnBegins p i 180 later", ""), ("specs/TablesMade.antt", "(s .rooms)) ≤ 4", "")
+    begins, in_line = ("specs/Demand3.antt", "TurnBegins p i 180 later", ""), ("specs/TablesMade.antt", "(s .rooms)) ≤ 4", "")
     example, empty = ("specs/Examples.antt", "DUAL NUT", ""), ("specs/NoAccounts.antt", "answerWithout (Call.Remove id) =", "")
     log = "".join(f"specs/A.antt:1:1: error: `{name}`: expected type\n" for name in ("turn-begins", "four-in-line"))
     cited = "error: `four-in-line`: `turn-begins` was not admitted\n"
     more = "error: `examples-hold`: differ\n"
 
     def held(said, *changes):
-        return refused.said_wrong("demands", "an edit", said, changes)
-    return [not fails(held, log, sums, seeds), fails(held, log.partition("\n")[0], sums, seeds), fails(held, log.partition("\n")[0] + cited, sums, seeds),
-            not fails(held, log + more, sums, seeds, example), fails(held, log, sums, seeds, example), fails(held, log + more, sums, seeds, example, empty)]
+        return refused.said_wrong("demands", "an edit", said, [begins, in_line, *changes])
+    first = log.partition("\n")[0]
+    return [not fails(held, log), fails(held, first), fails(held, first + cited),
+            not fails(held, log + more, example), fails(held, log, example), fails(held, log + more, example, empty)]
 
 
 def gate_can_fail(driver):
