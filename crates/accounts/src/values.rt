@@ -6,7 +6,7 @@ ghost use Rattle.accounts.specs.Rooms.{roomOf, partOf, inPlaces};
 ghost use mathlib.Core.List.{List, [], _∷_};
 ghost use Rattle.refusal.specs.Checks.{inOrder};
 ghost use Rattle.password.specs.Algorithm as names;
-ghost use Rattle.password.specs.Algorithm.{algorithmChecked, algorithmIn};
+ghost use Rattle.password.specs.Algorithm.{algorithmChecked};
 ghost use Rattle.accounts.specs.Accounts.{withValues, newRoom, renewedRoom, countWithin, newChecked, valuesChecked, proposal, proposed};
 ghost use Rattle.accounts.specs.OlderBytes.{remembering};
 use crate::Account;
@@ -14,8 +14,8 @@ use crate::FREE;
 use crate::Proposed;
 use crate::remembered::is_remembered;
 use crate::remembered::one_more;
-use password::algorithm::Algorithm;
 use password::algorithm::Named;
+use password::algorithm::algorithm_in;
 use password::algorithm::numbered;
 use password::eight_bytes::number_of;
 use password::phrase_and_seed::check_seed;
@@ -89,16 +89,6 @@ fn check_values(
     new
 }
 
-// The algorithm of that number. What is not one of theirs is refused before it is asked for.
-fn algorithm_of(number: u32) -> Algorithm
-    ensures { λ r. ⌜ r ≡ algorithmIn (names.numbered number) ⌝ }
-{
-    match numbered(number) {
-        Named::Is(algorithm) => algorithm,
-        Named::Unknown => Algorithm::Md5,
-    }
-}
-
 // An account with that id, with so many older seeds, and these values.
 fn account(
     id: u16,
@@ -116,7 +106,7 @@ fn account(
     let len = put_lower(&mut kept, seed);
     Account {
         id,
-        algorithm: algorithm_of(algorithm),
+        algorithm: algorithm_in(algorithm),
         seed: kept,
         len,
         count,

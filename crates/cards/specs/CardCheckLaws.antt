@@ -14,9 +14,10 @@ use Rattle.text.specs.Tests.{both}
 use Rattle.password.specs.declared.algorithm.Algorithm.{Algorithm}
 use Rattle.password.specs.PhraseAndSeed.{phraseChecked}
 use Rattle.challenge.specs.declared.reading.Challenge.{Challenge}
-use Rattle.challenge.specs.Challenges.{challengeOf}
+use Rattle.challenge.specs.Challenges.{challengeOf, algorithmOf}
 use Rattle.cards.specs.declared.card_checks.Asked.{Asked}
-use Rattle.cards.specs.CardChecks.{challengeChecked, countOf, linesChecked, cardChecked, countAsked}
+use Rattle.cards.specs.CardChecks.{challengeChecked, countOf, linesChecked, cardChecked}
+use Rattle.cards.specs.Inside.{askedOf}
 
 -- the lines that pass the check
 pub lines-good : (k n : ℕ) → (leb 1 k && leb k 99 && leb k n) ≡ true → (1 ≤ k) × (k ≤ 99) × (k ≤ n)
@@ -48,21 +49,24 @@ module _ (phrase challenge : List ℕ) (k : ℕ) (e : cardChecked phrase challen
 -- ---- what the answer says of the checks
 
 module _ (phrase challenge : List ℕ) (k : ℕ) where
-  pub asked-count : (n : ℕ) → countAsked phrase challenge k ≡ Asked.Count n
-      → (cardChecked phrase challenge k ≡ Checked.Good) × (n ≡ countOf (challengeOf challenge))
-  unfolding countAsked
-  asked-count n e = by (cardChecked phrase challenge k) refl e
+  -- the answer, by what the checks find
+  abbrev from : Checked → Asked
+  from c = unless Asked.Refused c (Asked.Card (algorithmOf (challengeOf challenge)) (countOf (challengeOf challenge)))
+
+  pub asked-card : (algorithm : Algorithm) (n : ℕ) → askedOf phrase challenge k ≡ Asked.Card algorithm n
+      → (cardChecked phrase challenge k ≡ Checked.Good) × (algorithm ≡ algorithmOf (challengeOf challenge)) × (n ≡ countOf (challengeOf challenge))
+  unfolding askedOf
+  asked-card algorithm n e = by (cardChecked phrase challenge k) refl e
     where
-      by : (c : Checked) → cardChecked phrase challenge k ≡ c → unless Asked.Refused c (Asked.Count (countOf (challengeOf challenge))) ≡ Asked.Count n
-          → (cardChecked phrase challenge k ≡ Checked.Good) × (n ≡ countOf (challengeOf challenge))
-      by Checked.Good f g = (f, cc)
+      by : (c : Checked) → cardChecked phrase challenge k ≡ c → from c ≡ Asked.Card algorithm n
+          → (cardChecked phrase challenge k ≡ Checked.Good) × (algorithm ≡ algorithmOf (challengeOf challenge)) × (n ≡ countOf (challengeOf challenge))
+      by Checked.Good f g = (f, cc, cc)
       by (Checked.Refused why) f g = let z : _≡_ {A = ℕ} 0 1 = cc in absurd (omega arith)
 
-  pub asked-refused : (why : Refusal) → countAsked phrase challenge k ≡ Asked.Refused why → cardChecked phrase challenge k ≡ Checked.Refused why
-  unfolding countAsked
+  pub asked-refused : (why : Refusal) → askedOf phrase challenge k ≡ Asked.Refused why → cardChecked phrase challenge k ≡ Checked.Refused why
+  unfolding askedOf
   asked-refused why e = by (cardChecked phrase challenge k) refl e
     where
-      by : (c : Checked) → cardChecked phrase challenge k ≡ c → unless Asked.Refused c (Asked.Count (countOf (challengeOf challenge))) ≡ Asked.Refused why
-          → cardChecked phrase challenge k ≡ Checked.Refused why
+      by : (c : Checked) → cardChecked phrase challenge k ≡ c → from c ≡ Asked.Refused why → cardChecked phrase challenge k ≡ Checked.Refused why
       by Checked.Good f g = let z : _≡_ {A = ℕ} 0 1 = cc in absurd (omega arith)
       by (Checked.Refused other) f g = cc

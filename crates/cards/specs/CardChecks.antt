@@ -9,7 +9,6 @@ use Rattle.refusal.specs.Checks.{unless, must}
 use Rattle.password.specs.PhraseAndSeed.{phraseChecked}
 use Rattle.challenge.specs.declared.reading.Challenge.{Challenge}
 use Rattle.challenge.specs.Challenges.{challengeOf}
-use Rattle.cards.specs.declared.card_checks.Asked.{Asked}
 
 -- what is wrong with a challenge, and the count that it says
 abbrev pub challengeChecked : Challenge → Checked
@@ -30,10 +29,3 @@ cardChecked phrase challenge k =
     unless Checked.Refused (phraseChecked phrase)
     (unless Checked.Refused (challengeChecked (challengeOf challenge))
     (linesChecked k (countOf (challengeOf challenge))))
-
--- the count of the card's first line, if nothing is wrong
-abbrev pub linesCounted : ℕ → ℕ → Asked
-linesCounted k n = unless Asked.Refused (linesChecked k n) (Asked.Count n)
-
-unfoldable pub countAsked : List ℕ → List ℕ → ℕ → Asked
-countAsked phrase challenge k = unless Asked.Refused (cardChecked phrase challenge k) (Asked.Count (countOf (challengeOf challenge)))

@@ -4,10 +4,22 @@ use mathlib.Core.Path.{_≡_}
 use mathlib.Core.List.{List, [], _∷_, _++_}
 use lib.ListN.{length, getD}
 use Rattle.refusal.specs.declared.Written.{Written}
+use Rattle.refusal.specs.Checks.{unless}
 use Rattle.text.specs.Put.{Put, Writes}
 use Rattle.password.specs.declared.algorithm.Algorithm.{Algorithm}
 use Rattle.password.specs.Password.{password}
+use Rattle.challenge.specs.Challenges.{challengeOf, algorithmOf}
+use Rattle.cards.specs.declared.card_checks.Asked.{Asked}
+use Rattle.cards.specs.CardChecks.{countOf, linesChecked, cardChecked}
 use Rattle.cards.specs.CardLines.{cardText}
+
+-- the algorithm and the count of the card's first line, if nothing is wrong
+abbrev pub linesCounted : ℕ → Algorithm → ℕ → Asked
+linesCounted k algorithm n = unless Asked.Refused (linesChecked k n) (Asked.Card algorithm n)
+
+unfoldable pub askedOf : List ℕ → List ℕ → ℕ → Asked
+askedOf phrase challenge k =
+    unless Asked.Refused (cardChecked phrase challenge k) (Asked.Card (algorithmOf (challengeOf challenge)) (countOf (challengeOf challenge)))
 
 -- ps starts with k passwords in falling count, the last of them p
 abbrev pub Falling : Algorithm → ℕ → ℕ → List ℕ → Type 0

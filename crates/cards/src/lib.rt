@@ -5,13 +5,12 @@ ghost use lib.ListN.{length};
 ghost use Rattle.refusal.specs.declared.Checked.{Checked};
 ghost use Rattle.text.specs.Put.{Writes, leaves};
 ghost use Rattle.password.specs.Password.{generatedBy};
-ghost use Rattle.challenge.specs.Challenges.{challengeOf, seedOf};
+ghost use Rattle.challenge.specs.Challenges.{challengeOf, algorithmOf, seedOf};
 ghost use Rattle.cards.specs.CardChecks.{countOf, cardChecked};
 ghost use Rattle.cards.specs.Cards.{cardOf, cardWritten};
 ghost use Rattle.cards.specs.Inside.{Walked};
 use crate::card_checks::Asked;
-use crate::card_checks::algorithm_asked;
-use crate::card_checks::count_asked;
+use crate::card_checks::card_asked;
 use crate::card_lines::write_lines;
 use crate::walk::walk;
 use challenge::reading::seed_of;
@@ -46,11 +45,18 @@ fn write_walked(algorithm: Algorithm, p: u64, n: u32, k: u32, buf: &mut [u8]) ->
 }
 
 // The card whose first line is for the count n, with nothing wrong but perhaps the room.
-fn write_from(phrase: &[u8], challenge: &[u8], n: u32, k: u32, buf: &mut [u8]) -> Written
+fn write_from(
+    algorithm: Algorithm,
+    phrase: &[u8],
+    challenge: &[u8],
+    n: u32,
+    k: u32,
+    buf: &mut [u8],
+) -> Written
     requires { ⌜ (cardChecked (now phrase) (now challenge) k ≡ Checked.Good) × (n ≡ countOf (challengeOf (now challenge))) ⌝ }
+    requires { ⌜ algorithm ≡ algorithmOf (challengeOf (now challenge)) ⌝ }
     ensures { λ r. ⌜ Writes (cardOf (now (phrase .entry)) (now (challenge .entry)) k) (now (buf .entry)) (now (buf .exit)) r ⌝ }
 {
-    let algorithm = algorithm_asked(challenge);
     let low = n - (k - 1);
     match password_at(algorithm, phrase, challenge, low) {
         Reading::Password(p) => write_walked(algorithm, p, n, k, buf),
@@ -63,8 +69,8 @@ pub fn write_card(phrase: &[u8], challenge: &[u8], lines: u32, buf: &mut [u8]) -
     ensures answered { λ r. ⌜ r ≡ cardWritten (now (phrase .entry)) (now (challenge .entry)) lines (length (now (buf .entry))) ⌝ }
     ensures left { λ r. ⌜ now (buf .exit) ≡ leaves r (cardOf (now (phrase .entry)) (now (challenge .entry)) lines) (now (buf .entry)) ⌝ }
 {
-    match count_asked(phrase, challenge, lines) {
-        Asked::Count(count) => write_from(phrase, challenge, count, lines, buf),
+    match card_asked(phrase, challenge, lines) {
+        Asked::Card(algorithm, n) => write_from(algorithm, phrase, challenge, n, lines, buf),
         Asked::Refused(why) => Written::Refused(why),
     }
 }

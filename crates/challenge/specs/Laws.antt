@@ -4,6 +4,7 @@ use mathlib.Core.Path.{_≡_, sym, _∙_, ap, ap₂}
 use mathlib.Core.Bool.{Bool, true, false, true≢false, or-false, cond, _||_}
 use mathlib.Core.List.{List, [], _∷_}
 use native.Mathlib.Omega.{arith}
+use borrow.Author.Tests.{lt-ltb}
 use lib.ListN.{length, take, drop, length-append, length-drop, length-map, length-take}
 use Rattle.refusal.specs.declared.Refusal.{Refusal}
 use Rattle.refusal.specs.declared.Checked.{Checked}
@@ -13,7 +14,7 @@ use Rattle.text.specs.Kinds.{inToken, isBlank}
 use Rattle.text.specs.Digits.{numberOf}
 use Rattle.text.specs.Scan.{runOf}
 use Rattle.text.specs.ScanLaws.{run-ends-within, stretch-length}
-use Rattle.text.specs.Tests.{same, same-equal, same-lengths}
+use Rattle.text.specs.Tests.{either, cases, both, same, same-equal, same-lengths}
 use Rattle.password.specs.declared.algorithm.Algorithm.{Algorithm}
 use Rattle.password.specs.declared.algorithm.Named.{Named}
 use Rattle.password.specs.Algorithm.{algorithmName, named}
@@ -46,7 +47,7 @@ use Rattle.challenge.specs.Challenges.{
   lengthOf,
   seedOf,
 }
-use Rattle.challenge.specs.Inside.{readFrom, seedFrom}
+use Rattle.challenge.specs.Inside.{markEnd, readBy, readFrom, seedFrom}
 
 -- ---- tokens and their places
 
@@ -135,13 +136,35 @@ unfolding isMark codes
 long-mark t h = sym (ap (λ (b : Bool). b || same (take 4 t) (codes "ext,")) (same-lengths t (codes "ext") (λ e. omega arith)))
 
 -- the bytes used with the mark and without
-pub marked-used : (text : List ℕ) (start : ℕ) → hasMark text start ≡ true → endOf text (markAt text start) + 1 ≡ usedBy text start
+marked-used : (text : List ℕ) (start : ℕ) → hasMark text start ≡ true → endOf text (markAt text start) + 1 ≡ usedBy text start
 unfolding usedBy
 marked-used text start e = sym (ap (λ (b : Bool). cond b (endOf text (markAt text start) + 1) (endOf text start + 1)) e)
 
-pub unmarked-used : (text : List ℕ) (start : ℕ) → hasMark text start ≡ false → endOf text start + 1 ≡ usedBy text start
+unmarked-used : (text : List ℕ) (start : ℕ) → hasMark text start ≡ false → endOf text start + 1 ≡ usedBy text start
 unfolding usedBy
 unmarked-used text start e = sym (ap (λ (b : Bool). cond b (endOf text (markAt text start) + 1) (endOf text start + 1)) e)
+
+-- a mark isn't empty, so that its end isn't 0
+marked-end : (text : List ℕ) (start : ℕ) → hasMark text start ≡ true → 0 < endOf text (markAt text start)
+unfolding hasMark isMark codes same
+marked-end text start e = by (tokenAt text (markAt text start)) (both (isMark (tokenAt text (markAt text start))) _ e .0)
+  where
+    by : (t : List ℕ) → isMark t ≡ true → 0 < markAt text start + length t
+    by [] f = absurd (true≢false (sym f))
+    by (b ∷ t) f = omega arith
+
+pub mark-end-within : (text : List ℕ) (start : ℕ) → start ≤ length text → markEnd text start ≤ length text
+unfolding markEnd
+mark-end-within text start h =
+    either (λ (k : ℕ). k ≤ length text) (hasMark text start) (λ e. token-within text (markAt text start) (next-within text start h)) (λ e. omega arith)
+
+-- what is said by the mark's end is what is said on success
+pub by-mark-end : (text : List ℕ) (algorithm : Algorithm) (count start : ℕ)
+    → readBy algorithm count start (length (tokenAt text start)) (markEnd text start) ≡ readFrom text algorithm count start
+unfolding markEnd readBy
+by-mark-end text algorithm count start = cases (hasMark text start)
+    (λ e. rw (e, lt-ltb 0 (endOf text (markAt text start)) (marked-end text start e), marked-used text start e))
+    (λ e. rw (e, unmarked-used text start e))
 
 -- what stands behind a terminated token that is read lies within the text
 pub terminated-within : (text : List ℕ) (at : ℕ) → terminated (drop at text) ≡ true → at + 1 ≤ length text

@@ -1,15 +1,15 @@
 // Reading a challenge, from left to right.
 ghost use mathlib.Core.Path.{_≡_};
-ghost use Prim.Native.Nat.{_+_, _≤_};
+ghost use Prim.Native.Nat.{_+_, _^_, _≤_, _<_};
 ghost use lib.ListN.{length, take, drop};
 ghost use Rattle.text.specs.Tests.{same as sameText};
 ghost use Rattle.text.specs.Counts.{countedOf};
 ghost use Rattle.password.specs.Algorithm.{named};
 ghost use Rattle.challenge.specs.Challenges as spec;
 ghost use Rattle.challenge.specs.Inside as inside;
-use crate::algorithm_names::read_name;
 use password::algorithm::Algorithm;
 use password::algorithm::Named;
+use password::algorithm_names::read_name;
 use password::phrase_and_seed::check_seed;
 use refusal::Checked;
 use refusal::Refusal;
@@ -104,16 +104,27 @@ fn count_from(text: &[u8], at: usize) -> Counted
     read_count(token(text, at))
 }
 
-// What a challenge says once its steps found nothing wrong. The token after the seed starts at `mark`: where the seed is ended by a newline there is
-// none, since no token starts with that.
-fn read_from(text: &[u8], algorithm: Algorithm, count: u32, start: usize, len: usize) -> Challenge
-    requires { ⌜ (start ≤ length (now text)) × (len ≡ length (spec.tokenAt (now text) start)) × (start + len + 1 ≤ length (now text)) ⌝ }
-    ensures { λ r. ⌜ r ≡ inside.readFrom (now (text .entry)) algorithm count start ⌝ }
+// Where the mark behind the seed at a place ends; 0 where there is none. Where the seed is ended by a newline there is none, since no token starts
+// with that.
+fn mark_end(text: &[u8], start: usize) -> usize
+    requires { ⌜ start ≤ length (now text) ⌝ }
+    ensures { λ r. ⌜ r ≡ inside.markEnd (now (text .entry)) start ⌝ }
 {
     let mark = next(text, start);
     let said = token(text, mark);
     let end = mark + said.len();
     if is_mark(said) & is_terminated(text, end) {
+        return end;
+    }
+    0
+}
+
+// What a challenge says once its steps found nothing wrong, by where its mark ends. No mark ends at 0.
+fn read_by(algorithm: Algorithm, count: u32, start: usize, len: usize, end: usize) -> Challenge
+    requires { ⌜ (start + len + 1 < 2 ^ 64) × (end + 1 < 2 ^ 64) ⌝ }
+    ensures { λ r. ⌜ r ≡ inside.readBy algorithm count start len end ⌝ }
+{
+    if 0 < end {
         return Challenge::Read {
             algorithm,
             count,
@@ -146,7 +157,7 @@ fn seed_from(text: &[u8], algorithm: Algorithm, count: u32, start: usize) -> Cha
     if !is_terminated(text, start + len) {
         return Challenge::Refused(Refusal::SeedUnended);
     }
-    read_from(text, algorithm, count, start, len)
+    read_by(algorithm, count, start, len, mark_end(text, start))
 }
 
 pub fn read(text: &[u8]) -> Challenge

@@ -1,9 +1,6 @@
 -- The promises of `challenge` and `cards` determine their results.
 use mathlib.Core.Path.{sym, _∙_}
 use denote.Ref.{now}
-use Rattle.challenge.proofs.algorithm_names.read_name.Reads as read-name
-use Rattle.challenge.proofs.algorithm_names.name_length.Reads as name-length
-use Rattle.challenge.proofs.algorithm_names.put_name.Reads as put-name
 use Rattle.challenge.proofs.reading.read.Reads as read
 use Rattle.challenge.proofs.reading.seed_of.Reads as seed-of
 use Rattle.challenge.proofs.writing.write.Reads as write
@@ -11,15 +8,6 @@ use Rattle.challenge.proofs.writing.write_by.Reads as write-by
 use Rattle.cards.proofs.write_card.Reads as write-card
 use Rattle.cards.proofs.printed.answer.Reads as answer
 use Rattle.determined.specs.Determined.{Answers, AnswersSeen, AnswersAndLent, both, left}
-
-pub read-name-determined : Answers read-name.Learnt
-read-name-determined k a y z e f p q = p ∙ sym q
-
-pub name-length-determined : Answers name-length.Learnt
-name-length-determined k a y z e f p q = p .0 ∙ sym (q .0)
-
-pub put-name-determined : AnswersAndLent put-name.Learnt (λ k e. now (e .0))
-put-name-determined k a y z e f p q = both p q
 
 pub read-determined : Answers read.Learnt
 read-determined k a y z e f p q = p ∙ sym q

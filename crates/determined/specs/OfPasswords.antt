@@ -22,7 +22,11 @@ use Rattle.generator.proofs.chain.step.Reads as step
 use Rattle.generator.proofs.generate.Reads as generate
 use Rattle.generator.proofs.generate_by.Reads as generate-by
 use Rattle.password.proofs.algorithm.numbered.Reads as numbered
+use Rattle.password.proofs.algorithm.algorithm_in.Reads as algorithm-in
 use Rattle.password.proofs.algorithm.number_of.Reads as algorithm-number-of
+use Rattle.password.proofs.algorithm_names.read_name.Reads as read-name
+use Rattle.password.proofs.algorithm_names.name_length.Reads as name-length
+use Rattle.password.proofs.algorithm_names.put_name.Reads as put-name
 use Rattle.password.proofs.eight_bytes.number_of.Reads as number-of
 use Rattle.password.proofs.eight_bytes.bytes_of.Reads as bytes-of
 use Rattle.determined.specs.Determined.{Answers, AnswersAndLent, both, left}
@@ -90,8 +94,20 @@ generate-by-determined k a y z e f p q = p ∙ sym q
 pub numbered-determined : Answers numbered.Learnt
 numbered-determined k a y z e f p q = p ∙ sym q
 
+pub algorithm-in-determined : Answers algorithm-in.Learnt
+algorithm-in-determined k a y z e f p q = p ∙ sym q
+
 pub algorithm-number-of-determined : Answers algorithm-number-of.Learnt
 algorithm-number-of-determined k a y z e f p q = p ∙ sym q
+
+pub read-name-determined : Answers read-name.Learnt
+read-name-determined k a y z e f p q = p ∙ sym q
+
+pub name-length-determined : Answers name-length.Learnt
+name-length-determined k a y z e f p q = p .0 ∙ sym (q .0)
+
+pub put-name-determined : AnswersAndLent put-name.Learnt (λ k e. now (e .0))
+put-name-determined k a y z e f p q = both p q
 
 pub number-of-determined : Answers number-of.Learnt
 number-of-determined k a y z e f p q = p ∙ sym q

@@ -10,6 +10,7 @@ use Rattle.text.proofs.scan.stretch_at.Reads as stretch-at
 use Rattle.text.proofs.scan.same.Reads as same
 use Rattle.text.proofs.scan.digit_value.Reads as digit-value
 use Rattle.text.proofs.put.copy.Reads as copy
+use Rattle.text.proofs.put.copy_and.Reads as copy-and
 use Rattle.text.proofs.put.spell.Reads as spell
 use Rattle.text.proofs.counts.read_count.Reads as read-count
 use Rattle.text.proofs.counts.width.Reads as width
@@ -49,6 +50,9 @@ digit-value-determined k a y z e f p q = p ∙ sym q
 
 pub copy-determined : AnswersAndLent copy.Learnt (λ k e. now (e .0))
 copy-determined k a y z e f p q = both p q
+
+pub copy-and-determined : AnswersAndLent copy-and.Learnt (λ k e. now (e .0))
+copy-and-determined k a y z e f p q = both p q
 
 pub spell-determined : AnswersAndLent spell.Learnt (λ k e. now (e .0))
 spell-determined k a y z e f p q = both p q

@@ -10,7 +10,7 @@ use Rattle.sixwords.proofs.spelling.words_length.Reads as words-length
 use Rattle.sixwords.proofs.spelling.write_words.Reads as write-words
 use Rattle.reply.proofs.read.Reads as read
 use Rattle.reply.proofs.read_six.Reads as read-six
-use Rattle.extended.proofs.reply_types.read_type.Reads as read-type
+use Rattle.extended.proofs.reply_writer.type_number.Reads as type-number
 use Rattle.extended.proofs.reply_texts.read.Reads as read-text
 use Rattle.extended.proofs.reply_writer.write.Reads as write-extended
 use Rattle.determined.specs.Determined.{Answers, AnswersAndLent, left}
@@ -42,8 +42,8 @@ read-determined k a y z e f p q = p ∙ sym q
 pub read-six-determined : Answers read-six.Learnt
 read-six-determined k a y z e f p q = p ∙ sym q
 
-pub read-type-determined : Answers read-type.Learnt
-read-type-determined k a y z e f p q = p ∙ sym q
+pub type-number-determined : Answers type-number.Learnt
+type-number-determined k a y z e f p q = p ∙ sym q
 
 pub read-text-determined : Answers read-text.Learnt
 read-text-determined k a y z e f p q = p ∙ sym q

@@ -3,6 +3,5 @@ pub mod ReplyTypes
 pub mod Parameters
 pub mod ReplyTexts
 pub mod ReplyWriting
-pub mod Inside
 pub mod ReplyWritingLaws
 pub mod Laws

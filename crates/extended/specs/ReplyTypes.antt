@@ -37,6 +37,11 @@ typed name = typeBy (λ kind. same name (typeName kind))
 abbrev pub typeNumbered : ℕ → Typed
 typeNumbered number = typeBy (λ kind. eqb number (typeNumber kind))
 
+-- The number of a type that was found, for who has its name; 0 where there is none.
+abbrev pub typedNumber : Typed → ℕ
+typedNumber (Typed.Is kind) = typeNumber kind
+typedNumber Typed.Unknown = 0
+
 -- 34: "unknown type"
 abbrev pub typeChecked : Typed → Checked
 typeChecked (Typed.Is kind) = Checked.Good

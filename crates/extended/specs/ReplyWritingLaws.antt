@@ -10,7 +10,8 @@ use borrow.Author.Tests.{leb-true}
 use Rattle.refusal.specs.declared.Refusal.{Refusal}
 use Rattle.refusal.specs.declared.Checked.{Checked}
 use Rattle.refusal.specs.Laws.{must-good, each-good}
-use Rattle.text.specs.Tests.{both}
+use Rattle.text.specs.Tests.{both, either}
+use Rattle.text.specs.Quoted.{codes}
 use Rattle.text.specs.Counts.{widthOf}
 use Rattle.text.specs.CountLaws.{length-decimal}
 use Rattle.password.specs.declared.algorithm.Algorithm.{Algorithm}
@@ -19,7 +20,9 @@ use Rattle.password.specs.Algorithm.{algorithmName, numbered, algorithmChecked,
 use Rattle.password.specs.AlgorithmLaws.{checked-known}
 use Rattle.password.specs.PhraseAndSeed.{seedChecked}
 use Rattle.hex.specs.Hex.{hexOf}
+use Rattle.hex.specs.Laws.{hex-length}
 use Rattle.sixwords.specs.Spelling.{wordsOf}
+use Rattle.sixwords.specs.SpellingLaws.{words-length}
 use Rattle.accounts.specs.Accounts.{countWithin, newChecked}
 use Rattle.extended.specs.declared.reply_types.ReplyType.{ReplyType}
 use Rattle.extended.specs.ReplyTypes.{typeName, isHex}
@@ -37,12 +40,27 @@ password-words kind password e = ap (λ (b : Bool). cond b (hexOf password) (wor
 
 -- ---- lengths
 
-pub length-login : (kind : ReplyType) (password : ℕ)
+pub type-few : (kind : ReplyType) → length (typeName kind) ≤ 9
+unfolding typeName codes
+type-few ReplyType.Hex = omega arith
+type-few ReplyType.Word = omega arith
+type-few ReplyType.InitHex = omega arith
+type-few ReplyType.InitWord = omega arith
+
+pub password-few : (kind : ReplyType) (p : ℕ) → length (passwordText kind p) ≤ 29
+unfolding passwordText
+password-few kind p =
+    either (λ (l : List ℕ). length l ≤ 29) (isHex kind) (λ e. omega (arith, hex-length p)) (λ e. words-length p)
+
+length-login : (kind : ReplyType) (password : ℕ)
     → length (loginText kind password) ≡ length (typeName kind) + length (passwordText kind password) + 1
 unfolding loginText
 length-login kind password = simp length-append (omega arith)
 
-pub length-values : (algorithm : Algorithm) (count : ℕ) (seed : List ℕ)
+pub login-few : (kind : ReplyType) (password : ℕ) → length (loginText kind password) ≤ 39
+login-few kind password = omega (arith, length-login kind password, type-few kind, password-few kind password)
+
+length-values : (algorithm : Algorithm) (count : ℕ) (seed : List ℕ)
     → length (valuesText algorithm count seed) ≡ length (algorithmName algorithm) + widthOf count + length seed + 2
 unfolding valuesText
 length-values algorithm count seed = simp length-append (omega (arith, length-decimal count))

@@ -1,138 +1,109 @@
 // An extended reply written: the type, a colon and the password; for `init` types the present password, algorithm, count and seed, and the new password.
 ghost use mathlib.Core.Path.{_≡_};
+ghost use mathlib.Core.Bool.{true};
 ghost use mathlib.Core.List.{[], _∷_, _++_};
-ghost use Prim.Native.Nat.{_+_, _≤_};
+ghost use Prim.Native.Nat.{_≤_};
 ghost use lib.ListN.{length};
 ghost use Rattle.text.specs.Put.{Put, Writes, leaves};
-ghost use Rattle.text.specs.Counts.{widthOf, decimalOf};
-ghost use Rattle.password.specs.Algorithm.{algorithmName};
-ghost use Rattle.extended.specs.ReplyTypes.{typeName};
+ghost use Rattle.text.specs.Counts.{decimalOf};
+ghost use Rattle.extended.specs.ReplyTypes.{typeName, typed, typedNumber, isInit};
 ghost use Rattle.extended.specs.ReplyWriting as spec;
-ghost use Rattle.extended.specs.Inside as inside;
 use crate::reply_types::HEX;
 use crate::reply_types::INIT_HEX;
 use crate::reply_types::INIT_WORD;
 use crate::reply_types::ReplyType;
 use crate::reply_types::Typed;
 use crate::reply_types::WORD;
-use crate::type_forms::is_hex;
-use crate::type_forms::is_init;
-use crate::type_forms::type_numbered;
+use crate::reply_types::is_hex;
+use crate::reply_types::is_init;
+use crate::reply_types::read_type;
+use crate::reply_types::type_numbered;
 use accounts::values::check_new;
-use challenge::algorithm_names::name_length;
-use challenge::algorithm_names::put_name;
 use hex::write_hex;
 use password::algorithm::Algorithm;
-use password::algorithm::Named;
-use password::algorithm::numbered;
+use password::algorithm::algorithm_in;
+use password::algorithm_names::put_name;
 use refusal::Checked;
 use refusal::Refusal;
 use refusal::Written;
-use sixwords::spelling::words_length;
 use sixwords::spelling::write_words;
 use text::counts::put_count_and;
-use text::counts::width;
 use text::put::copy;
+use text::put::copy_and;
 
-// A type's name and a colon.
+// The number of the type with that name, in lower case and whole, for who has the name and is to call `write`; 0 where there is none.
+pub fn type_number(name: &[u8]) -> u32
+    ensures { λ r. ⌜ r ≡ typedNumber (typed (now (name .entry))) ⌝ }
+{
+    let Typed::Is(kind) = read_type(name) else {
+        return 0;
+    };
+    match kind {
+        ReplyType::Hex => 1,
+        ReplyType::Word => 2,
+        ReplyType::InitHex => 3,
+        ReplyType::InitWord => 4,
+    }
+}
+
+// A type's name and a colon: ten bytes at most.
 fn put_type(buf: &mut [u8], kind: ReplyType) -> usize
-    requires { ⌜ length (typeName kind) + 1 ≤ length (now buf) ⌝ }
+    requires { ⌜ 10 ≤ length (now buf) ⌝ }
     ensures { λ r. ⌜ Put (typeName kind ++ 58 ∷ []) (now (buf .entry)) (now (buf .exit)) r ⌝ }
 {
-    let a = match kind {
-        ReplyType::Hex => copy(buf, &HEX),
-        ReplyType::Word => copy(buf, &WORD),
-        ReplyType::InitHex => copy(buf, &INIT_HEX),
-        ReplyType::InitWord => copy(buf, &INIT_WORD),
-    };
-    buf[a] = b':';
-    a + 1
-}
-
-fn type_length(kind: ReplyType) -> usize
-    ensures { λ r. ⌜ (r ≡ length (typeName kind)) × (r ≤ 9) ⌝ }
-{
     match kind {
-        ReplyType::Hex => 3,
-        ReplyType::Word => 4,
-        ReplyType::InitHex => 8,
-        ReplyType::InitWord => 9,
+        ReplyType::Hex => copy_and(buf, &HEX, b':'),
+        ReplyType::Word => copy_and(buf, &WORD, b':'),
+        ReplyType::InitHex => copy_and(buf, &INIT_HEX, b':'),
+        ReplyType::InitWord => copy_and(buf, &INIT_WORD, b':'),
     }
 }
 
-// A password as its type has it.
-fn write_password(buf: &mut [u8], kind: ReplyType, password: u64) -> Written
-    ensures { λ r. ⌜ Writes (spec.passwordText kind password) (now (buf .entry)) (now (buf .exit)) r ⌝ }
-{
-    if is_hex(kind) {
-        return write_hex(password, buf);
-    }
-    write_words(password, buf)
-}
-
-// The same where there is room.
+// A password as its type has it: six words take 29 bytes at most.
 fn put_password(buf: &mut [u8], kind: ReplyType, password: u64) -> usize
-    requires { ⌜ length (spec.passwordText kind password) ≤ length (now buf) ⌝ }
+    requires { ⌜ 29 ≤ length (now buf) ⌝ }
     ensures { λ r. ⌜ Put (spec.passwordText kind password) (now (buf .entry)) (now (buf .exit)) r ⌝ }
 {
-    let Written::Wrote(n) = write_password(buf, kind, password) else {
+    let written = if is_hex(kind) {
+        write_hex(password, buf)
+    } else {
+        write_words(password, buf)
+    };
+    let Written::Wrote(n) = written else {
         return 0;
     };
     n
 }
 
-fn password_length(kind: ReplyType, password: u64) -> usize
-    ensures { λ r. ⌜ (r ≡ length (spec.passwordText kind password)) × (r ≤ 29) ⌝ }
-{
-    if is_hex(kind) {
-        return 16;
-    }
-    words_length(password)
-}
-
-// The type and the present password.
+// The type and the present password: 39 bytes at most.
 fn put_login(buf: &mut [u8], kind: ReplyType, password: u64) -> usize
-    requires { ⌜ length (typeName kind) + length (spec.passwordText kind password) + 1 ≤ length (now buf) ⌝ }
+    requires { ⌜ 39 ≤ length (now buf) ⌝ }
     ensures { λ r. ⌜ Put (spec.loginText kind password) (now (buf .entry)) (now (buf .exit)) r ⌝ }
 {
     let a = put_type(buf, kind);
     a + put_password(&mut buf[a..], kind, password)
 }
 
-fn login_length(kind: ReplyType, password: u64) -> usize
-    ensures { λ r. ⌜ (r ≡ length (spec.loginText kind password)) × (r ≤ 39) ⌝ }
+// The seed as it is given, a colon and the new password: 46 bytes at most.
+fn put_seed_new(buf: &mut [u8], kind: ReplyType, seed: &[u8], new: u64) -> usize
+    requires { ⌜ (length (now seed) ≤ 16) × (46 ≤ length (now buf)) ⌝ }
+    ensures { λ r. ⌜ Put ((now (seed .entry) ++ 58 ∷ []) ++ spec.passwordText kind new) (now (buf .entry)) (now (buf .exit)) r ⌝ }
 {
-    type_length(kind) + password_length(kind, password) + 1
-}
-
-// A count, a space and the seed as it is given.
-fn put_count_seed(buf: &mut [u8], count: u32, seed: &[u8]) -> usize
-    requires { ⌜ widthOf count + length (now seed) + 1 ≤ length (now buf) ⌝ }
-    ensures { λ r. ⌜ Put ((decimalOf count ++ 32 ∷ []) ++ now (seed .entry)) (now (buf .entry)) (now (buf .exit)) r ⌝ }
-{
-    let a = put_count_and(buf, count, b' ');
-    a + copy(&mut buf[a..], seed)
-}
-
-// Algorithm, count and seed.
-fn put_values(buf: &mut [u8], algorithm: Algorithm, count: u32, seed: &[u8]) -> usize
-    requires { ⌜ length (algorithmName algorithm) + widthOf count + length (now seed) + 2 ≤ length (now buf) ⌝ }
-    ensures { λ r. ⌜ Put (spec.valuesText algorithm count (now (seed .entry))) (now (buf .entry)) (now (buf .exit)) r ⌝ }
-{
-    let a = put_name(buf, algorithm);
-    a + put_count_seed(&mut buf[a..], count, seed)
-}
-
-// A colon and the new password.
-fn put_new(buf: &mut [u8], kind: ReplyType, new: u64) -> usize
-    requires { ⌜ length (spec.passwordText kind new) + 1 ≤ length (now buf) ⌝ }
-    ensures { λ r. ⌜ Put (58 ∷ [] ++ spec.passwordText kind new) (now (buf .entry)) (now (buf .exit)) r ⌝ }
-{
-    let a = copy(buf, b":");
+    let a = copy_and(buf, seed, b':');
     a + put_password(&mut buf[a..], kind, new)
 }
 
-// Algorithm, count and seed, a colon and the new password.
+// The count, a space, and what `put_seed_new` puts: 51 bytes at most.
+fn put_count_seed_new(buf: &mut [u8], kind: ReplyType, count: u32, seed: &[u8], new: u64) -> usize
+    requires { ⌜ (length (now seed) ≤ 16) × (51 ≤ length (now buf)) ⌝ }
+    ensures { λ r. ⌜ Put ((decimalOf count ++ 32 ∷ []) ++ ((now (seed .entry) ++ 58 ∷ []) ++ spec.passwordText kind new))
+        (now (buf .entry)) (now (buf .exit)) r ⌝ }
+{
+    let a = put_count_and(buf, count, b' ');
+    a + put_seed_new(&mut buf[a..], kind, seed, new)
+}
+
+// Algorithm, count and seed, a colon and the new password: 56 bytes at most.
 fn put_values_new(
     buf: &mut [u8],
     kind: ReplyType,
@@ -141,49 +112,16 @@ fn put_values_new(
     seed: &[u8],
     new: u64,
 ) -> usize
-    requires { ⌜ length (algorithmName algorithm) + widthOf count + length (now seed) + length (spec.passwordText kind new) + 3 ≤ length (now buf) ⌝ }
+    requires { ⌜ (length (now seed) ≤ 16) × (56 ≤ length (now buf)) ⌝ }
     ensures { λ r. ⌜ Put (spec.valuesText algorithm count (now (seed .entry)) ++ (58 ∷ [] ++ spec.passwordText kind new))
         (now (buf .entry)) (now (buf .exit)) r ⌝ }
 {
-    let a = put_values(buf, algorithm, count, seed);
-    a + put_new(&mut buf[a..], kind, new)
+    let a = put_name(buf, algorithm);
+    a + put_count_seed_new(&mut buf[a..], kind, count, seed, new)
 }
 
-// The tail of a renewal: what it has behind the present password.
-fn put_tail(
-    buf: &mut [u8],
-    kind: ReplyType,
-    algorithm: Algorithm,
-    count: u32,
-    seed: &[u8],
-    new: u64,
-) -> usize
-    requires { ⌜ length (algorithmName algorithm) + widthOf count + length (now seed) + length (spec.passwordText kind new) + 4 ≤ length (now buf) ⌝ }
-    ensures { λ r. ⌜ Put (spec.tailText kind algorithm count (now (seed .entry)) new) (now (buf .entry)) (now (buf .exit)) r ⌝ }
-{
-    let a = copy(buf, b":");
-    a + put_values_new(&mut buf[a..], kind, algorithm, count, seed, new)
-}
-
-fn tail_length(kind: ReplyType, algorithm: Algorithm, count: u32, seed: &[u8], new: u64) -> usize
-    requires { ⌜ length (now seed) ≤ 16 ⌝ }
-    ensures { λ r. ⌜ (r ≡ length (spec.tailText kind algorithm count (now (seed .entry)) new)) × (r ≤ 57) ⌝ }
-{
-    name_length(algorithm) + width(count) + seed.len() + password_length(kind, new) + 4
-}
-
-// A login, or 40.
-fn write_login(kind: ReplyType, password: u64, buf: &mut [u8]) -> Written
-    ensures { λ r. ⌜ Writes (spec.loginText kind password) (now (buf .entry)) (now (buf .exit)) r ⌝ }
-{
-    if buf.len() < login_length(kind, password) {
-        return Written::Refused(Refusal::BufferShort);
-    }
-    Written::Wrote(put_login(buf, kind, password))
-}
-
-// Both halves of a renewal.
-fn put_both(
+// The whole text. Only an `init` type looks at more than the present password.
+fn put_text(
     buf: &mut [u8],
     kind: ReplyType,
     password: u64,
@@ -192,16 +130,20 @@ fn put_both(
     seed: &[u8],
     new: u64,
 ) -> usize
-    requires { ⌜ length (spec.loginText kind password) + length (spec.tailText kind algorithm count (now seed) new) ≤ length (now buf) ⌝ }
-    ensures { λ r. ⌜ Put (spec.loginText kind password ++ spec.tailText kind algorithm count (now (seed .entry)) new)
-        (now (buf .entry)) (now (buf .exit)) r ⌝ }
+    requires { ⌜ (isInit kind ≡ true → length (now seed) ≤ 16) ⌝ }
+    requires { ⌜ 96 ≤ length (now buf) ⌝ }
+    ensures { λ r. ⌜ Put (spec.extendedText kind password algorithm count (now (seed .entry)) new) (now (buf .entry)) (now (buf .exit)) r ⌝ }
 {
     let a = put_login(buf, kind, password);
-    a + put_tail(&mut buf[a..], kind, algorithm, count, seed, new)
+    if is_init(kind) {
+        let b = a + copy(&mut buf[a..], b":");
+        return b + put_values_new(&mut buf[b..], kind, algorithm, count, seed, new);
+    }
+    a
 }
 
-// A renewal whose values are good, or 40.
-fn write_good(
+// The text, or 40. The longest has 96 bytes: 39 for a login, a colon and 56 behind it.
+fn write_text(
     kind: ReplyType,
     password: u64,
     algorithm: Algorithm,
@@ -210,35 +152,25 @@ fn write_good(
     new: u64,
     buf: &mut [u8],
 ) -> Written
-    requires { ⌜ length (now seed) ≤ 16 ⌝ }
-    ensures { λ r. ⌜ Writes (spec.loginText kind password ++ spec.tailText kind algorithm count (now (seed .entry)) new)
-        (now (buf .entry)) (now (buf .exit)) r ⌝ }
+    requires { ⌜ (isInit kind ≡ true → length (now seed) ≤ 16) ⌝ }
+    ensures { λ r. ⌜ Writes (spec.extendedText kind password algorithm count (now (seed .entry)) new) (now (buf .entry)) (now (buf .exit)) r ⌝ }
 {
-    if buf.len() < login_length(kind, password) + tail_length(kind, algorithm, count, seed, new) {
+    let mut text = [0u8; 96];
+    let n = put_text(&mut text, kind, password, algorithm, count, seed, new);
+    if buf.len() < n {
         return Written::Refused(Refusal::BufferShort);
     }
-    Written::Wrote(put_both(buf, kind, password, algorithm, count, seed, new))
+    Written::Wrote(copy(buf, &text[..n]))
 }
 
-// A renewal, or the first fault in the order 51, 21, 23, 24, 40.
-fn write_renewal(
-    kind: ReplyType,
-    password: u64,
-    algorithm: u32,
-    count: u32,
-    seed: &[u8],
-    new: u64,
-    buf: &mut [u8],
-) -> Written
-    ensures { λ r. ⌜ inside.WritesRenewal kind password algorithm count (now (seed .entry)) new (now (buf .entry)) (now (buf .exit)) r ⌝ }
+// 51, 21, 23, 24 of an `init` type's values.
+fn check_renewal(kind: ReplyType, algorithm: u32, count: u32, seed: &[u8]) -> Checked
+    ensures { λ r. ⌜ r ≡ spec.renewalChecked kind algorithm count (now (seed .entry)) ⌝ }
 {
-    if let Checked::Refused(why) = check_new(algorithm, count, seed) {
-        return Written::Refused(why);
+    if is_init(kind) {
+        return check_new(algorithm, count, seed);
     }
-    let Named::Is(known) = numbered(algorithm) else {
-        return Written::Refused(Refusal::AlgorithmUnknown);
-    };
-    write_good(kind, password, known, count, seed, new, buf)
+    Checked::Good
 }
 
 // The extended reply of that type, or the first fault in the order 34, for `init` types 51, 21, 23, 24, then 40. For the others nothing is looked at but the
@@ -258,8 +190,16 @@ pub fn write(
     let Typed::Is(known) = type_numbered(kind) else {
         return Written::Refused(Refusal::TypeUnknown);
     };
-    if is_init(known) {
-        return write_renewal(known, password, algorithm, count, seed, new, buf);
+    if let Checked::Refused(why) = check_renewal(known, algorithm, count, seed) {
+        return Written::Refused(why);
     }
-    write_login(known, password, buf)
+    write_text(
+        known,
+        password,
+        algorithm_in(algorithm),
+        count,
+        seed,
+        new,
+        buf,
+    )
 }

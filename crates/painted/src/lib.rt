@@ -4,26 +4,17 @@
 use accounts::Account;
 use line::Lines;
 use line::Place;
-use password::algorithm::Algorithm;
-use password::algorithm::Named;
-use password::algorithm::numbered;
+use password::algorithm::algorithm_in;
 use port::Port;
 use refusal::listing_of;
 use table::Replied;
 use table::Table;
 
-fn algorithm_of(number: u32) -> Algorithm {
-    match numbered(number) {
-        Named::Is(algorithm) => algorithm,
-        Named::Unknown => Algorithm::Md5,
-    }
-}
-
 fn account(id: u16, algorithm: u32, stored: u64) -> Account {
     let seed = *b"dog2dog2dog2dog1";
     Account {
         id,
-        algorithm: algorithm_of(algorithm),
+        algorithm: algorithm_in(algorithm),
         seed,
         len: 16,
         count: 100,

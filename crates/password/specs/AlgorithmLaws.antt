@@ -1,9 +1,10 @@
 -- An algorithm by its number and by its name.
-use Prim.Native.Nat.{ℕ}
+use Prim.Native.Nat.{ℕ, _≤_}
 use mathlib.Core.Path.{_≡_, refl, sym, _∙_, ap}
 use mathlib.Core.Bool.{Bool, true, false, cond}
 use native.Mathlib.Omega.{arith}
 use lib.Dec.{eqb}
+use lib.ListN.{length}
 use borrow.Author.Tests.{eqb-true}
 use Rattle.refusal.specs.declared.Checked.{Checked}
 use Rattle.refusal.specs.declared.Refusal.{Refusal}
@@ -32,6 +33,11 @@ pub name-named : (algorithm : Algorithm) → named (algorithmName algorithm) ≡
 unfolding algorithmName codes same
 name-named Algorithm.Md5 = refl
 name-named Algorithm.Sha1 = refl
+
+pub name-few : (algorithm : Algorithm) → (1 ≤ length (algorithmName algorithm)) × (length (algorithmName algorithm) ≤ 4)
+unfolding algorithmName codes
+name-few Algorithm.Md5 = (omega arith, omega arith)
+name-few Algorithm.Sha1 = (omega arith, omega arith)
 
 -- 21 where there is no algorithm; otherwise what is done by it
 module _ {A : Type 0} (refused : Refusal → A) (by : Algorithm → A) where

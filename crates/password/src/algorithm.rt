@@ -24,6 +24,16 @@ pub fn numbered(number: u32) -> Named
     }
 }
 
+// The algorithm of that number. For one that is no algorithm's it is MD5, which nobody looks at.
+pub fn algorithm_in(number: u32) -> Algorithm
+    ensures { λ r. ⌜ r ≡ spec.algorithmIn (spec.numbered number) ⌝ }
+{
+    if number == 2 {
+        return Algorithm::Sha1;
+    }
+    Algorithm::Md5
+}
+
 pub fn number_of(algorithm: Algorithm) -> u32
     ensures { λ r. ⌜ r ≡ spec.algorithmNumber algorithm ⌝ }
 {

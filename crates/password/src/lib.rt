@@ -6,3 +6,5 @@ pub mod phrase_and_seed;
 pub mod eight_bytes;
 // The algorithms that passwords are made with, and their numbers.
 pub mod algorithm;
+// The names of the algorithms, read and written.
+pub mod algorithm_names;

@@ -24,15 +24,13 @@ use Rattle.text.specs.Put.{leaves}
 use Rattle.text.specs.PutLaws.{written-front}
 use Rattle.password.specs.declared.algorithm.Algorithm.{Algorithm}
 use Rattle.password.specs.Algorithm.{algorithmName, numbered, algorithmIn}
-use Rattle.password.specs.AlgorithmLaws.{numbered-number, name-named}
+use Rattle.password.specs.AlgorithmLaws.{numbered-number, name-named, name-few}
 use Rattle.password.specs.PhraseAndSeed.{plain, seedChecked}
 use Rattle.password.specs.PhraseAndSeedLaws.{good-seed}
 use Rattle.hex.specs.Hex.{hexOf, hexReading}
-use Rattle.hex.specs.Laws.{hex-length}
 use Rattle.sixwords.specs.Places.{placesOf}
 use Rattle.sixwords.specs.Laws.{places-all}
 use Rattle.sixwords.specs.Spelling.{sixWordsOf, wordsOf}
-use Rattle.sixwords.specs.SpellingLaws.{words-length}
 use Rattle.reply.specs.Reply.{sixReading}
 use Rattle.accounts.specs.Accounts.{newChecked}
 use Rattle.extended.specs.declared.reply_types.ReplyType.{ReplyType}
@@ -50,7 +48,7 @@ use Rattle.extended.specs.ReplyWriting.{
   textByNumbers,
   extendedWritten,
 }
-use Rattle.extended.specs.ReplyWritingLaws.{length-login, length-tail, good-values}
+use Rattle.extended.specs.ReplyWritingLaws.{password-few, login-few, length-tail, good-values}
 use Rattle.readback.specs.LaidOut.{TwoParts, FourParts, ReadAs, Spaced, RenewalParts, Says}
 use Rattle.readback.specs.CountRead.{digits-decimal, decimal-count, decimal-number}
 use Rattle.readback.specs.ChallengeRead.{plain-high, digit-high}
@@ -72,11 +70,6 @@ unfolding passwordText
 password-whole kind p =
     either (λ (l : List ℕ). colons l ≡ 0) (isHex kind) (λ e. kind-no-colons isHexDigit refl (hexOf p) (digits-hex 16 p)) (λ e. words-whole p)
 
-password-length : (kind : ReplyType) (p : ℕ) → length (passwordText kind p) ≤ 29
-unfolding passwordText
-password-length kind p =
-    either (λ (l : List ℕ). length l ≤ 29) (isHex kind) (λ e. omega (arith, hex-length p)) (λ e. words-length p)
-
 pub password-read : (kind : ReplyType) (p : ℕ) → p < 2 ^ 64 → passwordBy kind (passwordText kind p) ≡ Reading.Password p
 unfolding passwordBy passwordText
 password-read kind p h = by (isHex kind)
@@ -88,10 +81,10 @@ password-read kind p h = by (isHex kind)
 -- ---- the values of a renewal
 
 name-solid : (a : Algorithm)
-    → (every isSolid (algorithmName a) ≡ true) × (colons (algorithmName a) ≡ 0) × (1 ≤ length (algorithmName a)) × (length (algorithmName a) ≤ 4)
+    → (every isSolid (algorithmName a) ≡ true) × (colons (algorithmName a) ≡ 0)
 unfolding algorithmName codes every colons
-name-solid Algorithm.Md5 = (refl, refl, omega arith, omega arith)
-name-solid Algorithm.Sha1 = (refl, refl, omega arith, omega arith)
+name-solid Algorithm.Md5 = (refl, refl)
+name-solid Algorithm.Sha1 = (refl, refl)
 
 values-laid : (algorithm : Algorithm) (count : ℕ) (seed : List ℕ)
     → valuesText algorithm count seed ≡ algorithmName algorithm ++ (32 ∷ (decimalOf count ++ (32 ∷ (seed ++ []))))
@@ -126,26 +119,16 @@ module _ (algorithm : Algorithm) (count : ℕ) (seed : List ℕ) (low : count �
   spaced =
       let name = name-solid algorithm in
       subst (λ (l : List ℕ). Spaced l (algorithmName algorithm) (decimalOf count) seed) (sym (values-laid algorithm count seed))
-      (three-words [] (algorithmName algorithm) (32 ∷ []) (decimalOf count) (32 ∷ []) seed [] refl (name .0) (name .2) refl (omega arith)
+      (three-words [] (algorithmName algorithm) (32 ∷ []) (decimalOf count) (32 ∷ []) seed [] refl (name .0) (name-few algorithm .0) refl (omega arith)
       count-solid (omega (arith, width-few count, length-decimal count)) refl (omega arith) (solid-ends seed [] seed-solid (good-seed seed good .0))
       (solid-last seed seed-solid) refl)
 
 -- ---- the whole text
 
-type-length : (kind : ReplyType) → length (typeName kind) ≤ 9
-unfolding typeName codes
-type-length ReplyType.Hex = omega arith
-type-length ReplyType.Word = omega arith
-type-length ReplyType.InitHex = omega arith
-type-length ReplyType.InitWord = omega arith
-
 module _ (kind : ReplyType) (password : ℕ) where
   login-laid : loginText kind password ≡ typeName kind ++ 58 ∷ passwordText kind password
   unfolding loginText
   login-laid = simp append-assoc
-
-  login-length : length (loginText kind password) ≤ 39
-  login-length = omega (arith, length-login kind password, type-length kind, password-length kind password)
 
   login-parts : isInit kind ≡ false → TwoParts kind (loginText kind password) (passwordText kind password)
   login-parts e = record { logs-in = e; laid = login-laid; whole = password-whole kind password }
@@ -160,12 +143,12 @@ module _ (kind : ReplyType) (password : ℕ) (algorithm : Algorithm) (count : �
       omega (
         arith,
         length-append (loginText kind password) (tailText kind algorithm count seed new),
-        login-length kind password,
+        login-few kind password,
         length-tail kind algorithm count seed new,
-        name-solid algorithm .3,
+        name-few algorithm .1,
         width-few count,
         good-seed seed good .1,
-        password-length kind new,
+        password-few kind new,
       )
 
   renewal-parts : isInit kind ≡ true
@@ -191,7 +174,7 @@ module _ (kind : ReplyType) (password number count : ℕ) (seed : List ℕ) (new
   login-written-read : isInit kind ≡ false → Says kind password number count seed new (loginText kind password)
   login-written-read e = record {
     start = 0;
-    said = two-read kind (loginText kind password) (passwordText kind password) (login-parts kind password e) (omega (arith, login-length kind password))
+    said = two-read kind (loginText kind password) (passwordText kind password) (login-parts kind password e) (omega (arith, login-few kind password))
         ∙ ap ReplyText.Login (password-read kind password small)
         ∙ sym (ap (λ (k : Bool). saying k 0) e);
     seed-there = λ f. absurd (true≢false (sym f ∙ e));
@@ -253,7 +236,7 @@ extended-length kind password number count seed new checked = by (isInit kind) c
     by true f =
         let good = good-values number count seed f in
         whole-length kind password (algorithmIn (numbered number)) count seed new (good .0) (good .2)
-    by false f = omega (arith, login-length kind password)
+    by false f = omega (arith, login-few kind password)
 
 -- ---- what the writer left in a buffer reads back
 

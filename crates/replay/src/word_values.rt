@@ -4,9 +4,7 @@ ghost use Prim.Native.Nat.{_%_, _≤_, _<_};
 ghost use lib.ListN.{length};
 ghost use Rattle.replay.specs.ReplayWords.{digitIn, numberIn, passwordIn, bytesIn, pairsIn, textIn, held, ofType};
 ghost use Rattle.extended.specs.ReplyTypes.{typed};
-use extended::reply_types::ReplyType;
-use extended::reply_types::Typed;
-use extended::reply_types::read_type;
+use extended::reply_writer::type_number;
 use text::kinds::lower;
 use text::scan::digit_value;
 
@@ -69,15 +67,11 @@ pub fn password_in(word: &[u8]) -> Number
 pub fn type_in(word: &[u8]) -> Number
     ensures { λ r. ⌜ r ≡ ofType (typed (now (word .entry))) ⌝ }
 {
-    let Typed::Is(kind) = read_type(word) else {
+    let number = type_number(word);
+    if number == 0 {
         return Number::Bad;
-    };
-    match kind {
-        ReplyType::Hex => Number::Is(1),
-        ReplyType::Word => Number::Is(2),
-        ReplyType::InitHex => Number::Is(3),
-        ReplyType::InitWord => Number::Is(4),
     }
+    Number::Is(number as u64)
 }
 
 // The bytes that the word's pairs of hex digits stand for, put at the word's front.

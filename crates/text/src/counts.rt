@@ -60,20 +60,12 @@ pub fn width(n: u32) -> usize
     if n < 1000 { 3 } else { 4 }
 }
 
-// A count at the front of the buffer.
-fn put_count(buf: &mut [u8], n: u32) -> usize
-    requires { ⌜ widthOf n ≤ length (now buf) ⌝ }
-    ensures { λ r. ⌜ Put (decimalOf n) (now (buf .entry)) (now (buf .exit)) r ⌝ }
-{
-    spell(buf, n as u64, 10, width(n))
-}
-
-// A count and one byte after it.
+// A count at the front of the buffer, and one byte after it.
 pub fn put_count_and(buf: &mut [u8], n: u32, last: u8) -> usize
     requires { ⌜ widthOf n + 1 ≤ length (now buf) ⌝ }
     ensures { λ r. ⌜ Put (decimalOf n ++ last ∷ []) (now (buf .entry)) (now (buf .exit)) r ⌝ }
 {
-    let a = put_count(buf, n);
+    let a = spell(buf, n as u64, 10, width(n));
     buf[a] = last;
     a + 1
 }

@@ -1,6 +1,7 @@
 // What is put at the front of a lent buffer: a text, and a number in digits.
 ghost use mathlib.Core.Path.{_≡_};
-ghost use Prim.Native.Nat.{_≤_, _<_};
+ghost use mathlib.Core.List.{[], _∷_, _++_};
+ghost use Prim.Native.Nat.{_+_, _≤_, _<_};
 ghost use lib.ListN.{length};
 ghost use Rattle.text.specs.Digits.{digitOf, digitsOf};
 ghost use Rattle.text.specs.Put.{Put};
@@ -16,6 +17,16 @@ pub fn copy(buf: &mut [u8], t: &[u8]) -> usize
         i += 1;
     }
     i
+}
+
+// The same and one byte after it.
+pub fn copy_and(buf: &mut [u8], t: &[u8], last: u8) -> usize
+    requires { ⌜ length (now t) + 1 ≤ length (now buf) ⌝ }
+    ensures { λ r. ⌜ Put (now (t .entry) ++ last ∷ []) (now (buf .entry)) (now (buf .exit)) r ⌝ }
+{
+    let a = copy(buf, t);
+    buf[a] = last;
+    a + 1
 }
 
 // The byte for a digit. A table of sixteen: by arithmetic the compiler spelt all sixteen digits at once, in three times

@@ -21,18 +21,18 @@ never : {A : Type 0} (why : Refusal) (p : ℕ) → Reading.Refused why ≡ Readi
 never why p e = let z : _≡_ {A = ℕ} 0 1 = cc in absurd (omega arith)
 
 within : (c : tie.Start) → (1 ≤ c .args .k) × (c .args .k ≤ 99) × (c .args .k ≤ c .args .n)
-within c = bounds (c .args .phrase .now) (c .args .challenge .now) (c .args .k) (c .pre .0) (c .args .n) (c .pre .1)
+within c = bounds (c .args .phrase .now) (c .args .challenge .now) (c .args .k) (c .pre .0 .0) (c .args .n) (c .pre .0 .1)
 
 abbrev start : tie.After-password-at → tie.Start
-start c = c .before .before .before .before .before
+start c = c .before .before .before .before
 
 lowest : (c : tie.After-password-at) →
     let a = start c .args in
-    c .password-at .result ≡ Reading.Password (password (c .before .algorithm-asked .result) (a .phrase .now) (seedOf (a .challenge .now)) (a .n - (a .k - 1)))
+    c .password-at .result ≡ Reading.Password (password (a .algorithm) (a .phrase .now) (seedOf (a .challenge .now)) (a .n - (a .k - 1)))
 lowest c =
     let a = start c .args in
     c .password-at .ensures
-    ∙ card-generated (a .phrase .now) (a .challenge .now) (a .k) (start c .pre .0) _ (a .n - (a .k - 1)) (omega (arith, start c .pre .1))
+    ∙ card-generated (a .phrase .now) (a .challenge .now) (a .k) (start c .pre .0 .0) _ (a .n - (a .k - 1)) (omega (arith, start c .pre .0 .1))
 
 returns : tie.Need-returns
 returns c =
@@ -41,19 +41,18 @@ returns c =
     let at = told .before .before .before in
     let a = start at .args in
     subst (λ (t : List ℕ). Writes t (a .buf .now) (call .write-walked .last .1 .1 .1 .1 .0) (call .write-walked .result))
-    (card-from (a .phrase .now) (a .challenge .now) (a .k) _ (a .n) (at .before .algorithm-asked .ensures) (start at .pre .1))
+    (card-from (a .phrase .now) (a .challenge .now) (a .k) (a .algorithm) (a .n) (start at .pre .1) (start at .pre .0 .1))
     (call .write-walked .ensures (a .phrase .now) (seedOf (a .challenge .now)) (same-password (sym (told .before .p .given .1) ∙ lowest at)))
 
 pub write-from-spec : {M : Type 1} → statement M
 write-from-spec =
     tie.close
     (tie.spec
-    (λ c κs. search needs)
-    (λ c. within (c .before .before .before .before) .0)
-    (λ c. omega (arith, within (c .before .before .before .before)))
+    (λ c. within (c .before .before .before) .0)
+    (λ c. omega (arith, within (c .before .before .before)))
     (λ c κs. search needs)
     (λ c. search needs)
-    (λ c κs. within (c .before .before .before .before .before .before .before .before .before))
+    (λ c κs. within (start (c .before .before .before .before)))
     (λ c. search needs)
     (λ c. search needs)
     returns

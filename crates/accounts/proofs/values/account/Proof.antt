@@ -17,7 +17,7 @@ returns c part =
     let seed = ap₂ (λ (n : ℕ) (l : List ℕ). take n l) (put .0) (put .1) ∙ take-at (map lowerOf (a .seed .now)) _ _ refl in
     λ i. record {
       id = a .id;
-      algorithm = c .algorithm-of .ensures i;
+      algorithm = c .algorithm-in .ensures i;
       seed = seed i;
       older = take (a .older-count) (inPlaces 7 part);
       count = a .count;

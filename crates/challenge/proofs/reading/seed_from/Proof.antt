@@ -2,14 +2,16 @@
 use borrow.Author.Needs.{needs}
 use borrow.Author.Tests.{not-true, not-false}
 use Prim.Native.Nat.{ℕ, _+_, _≤_}
-use mathlib.Core.Path.{_≡_, sym, _∙_, ap}
+use mathlib.Core.Path.{_≡_, sym, _∙_, ap, ap₂}
+use mathlib.Core.Bool.{true}
 use mathlib.Core.List.{List}
 use native.Mathlib.Omega.{arith}
 use lib.ListN.{length, drop}
 use Rattle.refusal.specs.declared.Checked.{Checked}
 use Rattle.password.specs.PhraseAndSeed.{seedChecked}
 use Rattle.challenge.specs.Challenges.{tokenAt, endOf, terminated}
-use Rattle.challenge.specs.Laws.{token-within, terminated-within, stop4, stop5, all-good}
+use Rattle.challenge.specs.Inside.{readBy}
+use Rattle.challenge.specs.Laws.{token-within, mark-end-within, by-mark-end, terminated-within, stop4, stop5, all-good}
 use Rattle.challenge.proofs.reading.seed_from.Statement.{statement}
 use Rattle.challenge.proofs.reading.seed_from.Tie as tie
 
@@ -48,17 +50,26 @@ returns-2 c =
     let at = seed (c .before .before) in
     sym (stop5 (text at) _ _ (start at) (good (c .before)) (sym (ended (c .before)) ∙ not-true _ (c .if1 .taken)))
 
-read-requires : tie.Need-read-from-requires
+ended-well : (c : tie.Else1) →
+    terminated (drop (endOf (text (seed (c .before .before))) (start (seed (c .before .before)))) (text (seed (c .before .before)))) ≡ true
+ended-well c = sym (ended (c .before)) ∙ not-false _ (c .if1 .left)
+
+read-requires : tie.Need-read-by-requires
 read-requires c κs =
-    let at = seed (c .before .before) in
-    let end = terminated-within (text at) (endOf (text at) (start at)) (sym (ended (c .before)) ∙ not-false _ (c .if1 .left)) in
-    (at .before .before .pre, ap length (at .token .ensures), omega (arith, ap length (at .token .ensures), end))
+    let at = seed (c .before .before .before) in
+    let begun = at .before .before in
+    let end = terminated-within (text at) (endOf (text at) (start at)) (ended-well (c .before)) in
+    let mark = mark-end-within (text at) (start at) (begun .pre) in
+    (omega (arith, ap length (at .token .ensures), end, begun .good .0 .1), omega (arith, c .mark-end .ensures, mark, begun .good .0 .1))
 
 returns-3 : tie.Need-returns-3
 returns-3 c =
-    let else1 = c .before in
+    let else1 = c .before .before in
     let at = seed (else1 .before .before) in
-    c .read-from .ensures ∙ sym (all-good (text at) _ _ (start at) (good (else1 .before)) (sym (ended (else1 .before)) ∙ not-false _ (else1 .if1 .left)))
+    c .read-by .ensures
+    ∙ ap₂ (readBy _ _ (start at)) (ap length (at .token .ensures)) (c .before .mark-end .ensures)
+    ∙ by-mark-end (text at) _ _ (start at)
+    ∙ sym (all-good (text at) _ _ (start at) (good (else1 .before)) (ended-well else1))
 
 pub seed-from-spec : {M : Type 1} → statement M
 seed-from-spec =
@@ -72,5 +83,6 @@ seed-from-spec =
     (λ c. omega (arith, end-within c))
     (λ c κs. search needs)
     returns-2
+    (λ c κs. search needs)
     read-requires
     returns-3)

@@ -6,6 +6,7 @@ use lib.ListN.{length-append}
 use Rattle.text.specs.PutLaws.{then-put, front-within}
 use Rattle.extended.specs.ReplyTypes.{typeName}
 use Rattle.extended.specs.ReplyWriting.{passwordText, loginText}
+use Rattle.extended.specs.ReplyWritingLaws.{type-few}
 use Rattle.extended.proofs.reply_writer.put_login.Statement.{statement}
 use Rattle.extended.proofs.reply_writer.put_login.Tie as tie
 
@@ -26,7 +27,9 @@ put-login-spec =
     (λ c. omega (arith, front-within))
     (λ c. omega (arith, front-within))
     (λ c. search needs)
-    (λ c κs. omega (arith, length-append (typeName (c .before .before .before .before .before .before .args .kind)) (58 ∷ [])))
+    (λ c κs.
+    let kind = c .before .before .before .before .before .before .args .kind in
+    omega (arith, length-append (typeName kind) (58 ∷ []), type-few kind))
     (λ c. omega (arith, front-within))
     (λ c. search needs)
     returns)

@@ -1,37 +1,32 @@
--- `type_in` meets its promise: by cases of the type.
+-- `type_in` meets its promise: a type has a number, and 0 is none's.
 use Prim.Native.Nat.{ℕ}
-use mathlib.Core.Path.{_≡_, sym, _∙_, ap}
-use mathlib.Core.List.{List}
+use mathlib.Core.Path.{_≡_, refl, ap}
+use native.Mathlib.Omega.{arith}
 use Rattle.extended.specs.declared.reply_types.ReplyType.{ReplyType}
 use Rattle.extended.specs.declared.reply_types.Typed.{Typed}
-use Rattle.extended.specs.ReplyTypes.{typed, typeNumber}
+use Rattle.extended.specs.ReplyTypes.{typed, typedNumber}
 use Rattle.replay.specs.declared.word_values.Number.{Number}
 use Rattle.replay.specs.ReplayWords.{ofType}
 use borrow.Author.Needs.{needs}
 use Rattle.replay.proofs.word_values.type_in.Statement.{statement}
 use Rattle.replay.proofs.word_values.type_in.Tie as tie
 
-known : (word : List ℕ) (found : Typed) (kind is : ReplyType) → found ≡ typed word → found ≡ Typed.Is kind → kind ≡ is
-    → Number.Is (typeNumber is) ≡ ofType (typed word)
-known word found kind is e f g = sym (ap ofType (sym e ∙ f ∙ ap Typed.Is g))
+none : (found : Typed) (n : ℕ) → n ≡ typedNumber found → n ≡ 0 → Number.Bad ≡ ofType found
+none (Typed.Is ReplyType.Hex) n e z = absurd (omega arith)
+none (Typed.Is ReplyType.Word) n e z = absurd (omega arith)
+none (Typed.Is ReplyType.InitHex) n e z = absurd (omega arith)
+none (Typed.Is ReplyType.InitWord) n e z = absurd (omega arith)
+none Typed.Unknown n e z = refl
+
+some : (found : Typed) (n : ℕ) → n ≡ typedNumber found → (n ≡ 0 → ⊥) → Number.Is n ≡ ofType found
+some (Typed.Is kind) n e z = ap Number.Is e
+some Typed.Unknown n e z = absurd (z e)
 
 pub type-in-spec : {M : Type 1} → statement M
 type-in-spec =
     tie.close
     (tie.spec
     (λ c κs. search needs)
+    (λ c. none (typed (c .before .before .before .args .word .now)) _ (c .before .type-number .ensures) (c .if1 .taken))
     (λ c. search needs)
-    (λ c. search needs)
-    (λ c. sym (ap ofType (sym (c .before .before .read-type .ensures) ∙ c .enum-told .given .1)))
-    (λ c. search needs)
-    (λ c. search needs)
-    (λ c. search needs)
-    (λ c. search needs)
-    (λ c. let k = c .before .before .before in
-    known _ _ _ ReplyType.Hex (k .before .before .read-type .ensures) (k .kind .given .1) (c .enum-told2 .given .1))
-    (λ c. let k = c .before .before .before in
-    known _ _ _ ReplyType.Word (k .before .before .read-type .ensures) (k .kind .given .1) (c .enum-told3 .given .1))
-    (λ c. let k = c .before .before .before in
-    known _ _ _ ReplyType.InitHex (k .before .before .read-type .ensures) (k .kind .given .1) (c .enum-told4 .given .1))
-    (λ c. let k = c .before .before .before in
-    known _ _ _ ReplyType.InitWord (k .before .before .read-type .ensures) (k .kind .given .1) (c .enum-told5 .given .1)))
+    (λ c. some (typed (c .before .before .before .args .word .now)) _ (c .before .type-number .ensures) (c .if1 .left)))
