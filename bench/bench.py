@@ -33,6 +33,7 @@ WHOSE = {
     "heimdal": "Heimdal's libotp",
     "generator": "one generator call",
     "known": "six known words",
+    "plainly": "read as plain alone",
 }
 # the rows in C: a bound is held against the fastest of them
 IN_C = ["plain", "gcc", "clang"]
@@ -45,6 +46,8 @@ COMPARED = {
     **{f"{name}-digest-4096": (f"{title} of 4,096 bytes", "a block") for name, title in ALGORITHMS.items()},
     "words-read": ("4,096 six words read", "a text"),
     "words-misread": ("4,096 misread lines read", "a text"),
+    "reply-read": ("4,096 replies read", "a text"),
+    "extended-read": ("4,096 word: replies read", "a text"),
     "words-written": ("4,096 six words written", "a text"),
     "hex-read": ("4,096 hex texts read", "a text"),
     "hex-written": ("4,096 hex texts written", "a text"),
@@ -59,6 +62,7 @@ WANTED = {
     "sha1-chain": [Bound(IN_C, 1.05), Bound(["heimdal"], 0.30)],
     "sha1-digest-4096": [Bound(IN_C, 1.10)],
     "words-read": [Bound(["heimdal"], 0.50, 0.25)],
+    "reply-read": [Bound(["heimdal"], 0.50, 0.25)],
     "words-written": [Bound(["heimdal"], 1.00, 0.60)],
     "card": [Bound(["generator"], 1.10)],
 }
@@ -69,10 +73,17 @@ GROWING = {
 }
 # calls with little to do
 SHORT = {
+    "plain-empty": "plain reply of 0 bytes, refused (33)",
+    "plain-blank": "plain reply of 128 blanks, refused (33)",
+    "plain-words": "plain reply in words, 11 bytes, read",
+    "plain-hex": "plain reply in hex, 16 bytes, read",
     "reply-empty": "reply of 0 bytes, refused (33)",
     "reply-blank": "reply of 128 blanks, refused (33)",
     "reply-words": "reply in words, 11 bytes, read",
     "reply-hex": "reply in hex, 16 bytes, read",
+    "reply-type": "reply of no type, 2 bytes, refused (34)",
+    "reply-extended": "reply of type hex, 20 bytes, read",
+    "reply-init": "reply of type init-hex, 68 bytes, read",
     "challenge-empty": "challenge of 0 bytes, refused (20)",
     "challenge-short": "challenge of 12 bytes read",
     "challenge-long": "challenge of 35 bytes, with the mark, read",

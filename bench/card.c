@@ -34,8 +34,8 @@ static const uint8_t *past_line(const uint8_t *line, const uint8_t *end, uint32_
     for (int i = 0; i < 4; i++)
         digits = digits * 10 + (line[i] - (uint32_t)'0');
     same(digits == count, "card, a line's count");
-    same(lift_read_reply(line + 5, 16).password == password_at(count), "card, hex");
-    same(lift_read_reply(line + 22, (size_t)(newline - line) - 22).password == password_at(count),
+    same(lift_read_plain(line + 5, 16).password == password_at(count), "card, hex");
+    same(lift_read_plain(line + 22, (size_t)(newline - line) - 22).password == password_at(count),
          "card, words");
     return newline + 1;
 }

@@ -13,10 +13,17 @@ enum { TIMES = 2000, ROOM = 32, COUNT = 9999 };
 /* An answer as one number: a refusal by itself, or what the call gives. */
 typedef uint64_t answer(const uint8_t *text, size_t len);
 
+static uint64_t plain_read(const uint8_t *text, size_t len)
+{
+    lift_reading r = lift_read_plain(text, len);
+    return r.refusal != 0 ? r.refusal : r.password;
+}
+
+/* Of a renewal its new password, which is read first. */
 static uint64_t reply_read(const uint8_t *text, size_t len)
 {
-    lift_reading r = lift_read_reply(text, len);
-    return r.refusal != 0 ? r.refusal : r.password;
+    lift_reply r = lift_read_reply(text, len);
+    return r.refusal != 0 ? r.refusal : r.init != 0 ? r.new_password : r.password;
 }
 
 static uint64_t challenge_read(const uint8_t *text, size_t len)
@@ -41,10 +48,17 @@ typedef struct {
 } row;
 
 static const row rows[] = {
+    {"plain-empty", "", plain_read, 33},
+    {"plain-blank", SIXTY_FOUR_BLANKS SIXTY_FOUR_BLANKS, plain_read, 33},
+    {"plain-words", "A A A A A A", plain_read, 0},
+    {"plain-hex", "85c43ee03857765b", plain_read, 0x85c43ee03857765b},
     {"reply-empty", "", reply_read, 33},
     {"reply-blank", SIXTY_FOUR_BLANKS SIXTY_FOUR_BLANKS, reply_read, 33},
     {"reply-words", "A A A A A A", reply_read, 0},
     {"reply-hex", "85c43ee03857765b", reply_read, 0x85c43ee03857765b},
+    {"reply-type", "x:", reply_read, 34},
+    {"reply-extended", "hex:85c43ee03857765b", reply_read, 0x85c43ee03857765b},
+    {"reply-init", "init-hex:85c43ee03857765b:md5 9999 ABCDEFGHijkl6789:c3393c088789b0af", reply_read, 0xc3393c088789b0af},
     {"challenge-empty", "", challenge_read, 20},
     {"challenge-short", "otp-md5 0 t\n", challenge_read, 12},
     {"challenge-long", "otp-sha1 9999 ABCDEFGHijkl6789 ext\n", challenge_read, 35},

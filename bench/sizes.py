@@ -1,4 +1,4 @@
-"""What each exported function takes of a panel: code, read-only data, stack. And the stack that Reply and Renew take."""
+"""What each exported function takes of a panel: code, read-only data, stack. And the stack that the table's two offers take."""
 import ctypes
 
 import bounds
@@ -8,13 +8,14 @@ import harness
 # what is linked together in a panel that only reads, or only writes, replies
 GROUPS = {
     "both writers": ["lift_write_hex", "lift_write_words"],
-    "reader and writers": ["lift_read_reply", "lift_write_hex", "lift_write_words"],
+    "plain reader and writers": ["lift_read_plain", "lift_write_hex", "lift_write_words"],
+    "both readers": ["lift_read_plain", "lift_read_reply"],
 }
 # R-3: what lift_md5 is to take at most, as GNU ld lays it out: the 64 constants and little else, and 0.75 of the 3,699 and 608
 # bytes before the request
 MD5_DATA, MD5_ALL = 288, 3230
-# Reply and Renew, which C can't call: their callers in crate `painted`, each of which has a table
-TURNS = {"Reply": "painted_reply", "Renew": "painted_renew"}
+# the two offers, which C can't call: their callers in crate `painted`, each of which has a table
+TURNS = {"Offer": "painted_offer", "Offer of a renewal": "painted_offer_renewal"}
 # where a linker puts code, what is only read, and what is written
 KINDS = {"code": [".text"], "read-only": [".rodata"], "variables": [".data", ".bss"]}
 
@@ -56,7 +57,7 @@ def stacks(library, painted):
     mute = [f"-Wl,--defsym={name}=nothing" for name in [*symbols(library, "T"), *symbols(painted, "T")]]
     (taken, wrong), (before, _) = depths(library, painted, []), depths(library, painted, mute)
     if wrong:
-        raise harness.Failed(f"turns.c: {wrong} calls of Reply and Renew aren't answered as they should be")
+        raise harness.Failed(f"turns.c: {wrong} offers aren't answered as they should be")
     return {name: taken[name] - before[name] for name in taken}
 
 
@@ -73,10 +74,10 @@ def md5_bounds(sizes, empty):
 
 
 def turn_rows(stack):
-    """Reply and Renew: what their callers take, less the table that each has."""
+    """The two offers: what their callers take, less the table that each has."""
     of_table = ctypes.sizeof(calls.Table)
     rows = [f"{title:24} {'':10} {'':16} {stack[name] - of_table:>10}" for title, name in TURNS.items()]
-    return [*rows, "Reply and Renew are for callers in Rattle: the stack is that of one that has a table of 32 accounts, hands it over\n"
+    return [*rows, "The offers are for callers in Rattle: the stack is that of one that has a table of 32 accounts, hands it over\n"
                    f"and puts what comes back in its place, less the {of_table:,} bytes of its table."]
 
 

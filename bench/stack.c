@@ -1,7 +1,7 @@
 /* The stack that each exported function takes: it runs on a painted stack, and
  * the deepest byte whose paint is gone tells how far down it went. Prints a
  * line for each function: its name, bytes from the top. Behind them come the
- * callers of Reply and Renew (turns.h), and how many of their calls weren't
+ * callers of the two offers (turns.h), and how many of their calls weren't
  * answered as they should be.
  *
  * The bytes from the top include what the caller took here. sizes.py builds
@@ -68,19 +68,56 @@ static void call_password(void)
 }
 
 /* Words and hex in both cases and with white space, each refusal. */
+static const char *const plain[] = {
+    "INCH SEA ANNE LONG AHEM TOUR",
+    "\t inch sea  anne\r\nlong ahem tour \n",
+    "A A A A A A",
+    "9e876134d90499dd",
+    " 9E87 6134 D904 99DD ",
+    "INCH SEA ANNE LONG AHEM TOUT",
+    "XQ SEA ANNE LONG AHEM TOUR",
+    "INCH SEA ANNE LONG AHEM ZZZZ",
+    "INCH SEA ANNE LONG AHEM",
+    "9e876134d90499d",
+    "",
+};
+
+static void call_read_plain(void)
+{
+    for (size_t i = 0; i < LENGTH_OF(plain); i++)
+        lift_read_plain((const uint8_t *)plain[i], strlen(plain[i]));
+    lift_read_plain(bytes, 128);
+    lift_read_plain(bytes, 129);
+}
+
+#define SEA "INCH SEA ANNE LONG AHEM TOUR"
+#define DIGITS "9e876134d90499dd"
+#define BLANKS_64 "                                                                "
+
+/* Each type, the longest renewal, values that nobody would take, each refusal. */
+static const char *const extended[] = {
+    "hex:" DIGITS,
+    "word:" SEA,
+    "word:\t inch sea  anne\r\nlong ahem tour \n" BLANKS_64 BLANKS_64,
+    "init-hex:" DIGITS ":md5 2 t:" DIGITS,
+    "init-word:" SEA BLANKS_64 BLANKS_64 ":sha1 9999 ABCDEFGHijkl6789:" SEA "                                  ",
+    "init-hex:" DIGITS ":x y " BLANKS_64 "A Seed" BLANKS_64 "z:" DIGITS,
+    "init-word:" SEA "::" SEA,
+    "HEX:" DIGITS,
+    "hex:" DIGITS ":",
+    "init-word:" SEA ":md5 2 t:XQ SEA ANNE LONG AHEM TOUR",
+    "init-word:XQ SEA ANNE LONG AHEM ZZZZ:md5 2 t:" SEA,
+    "init-word:" SEA ":md5 2 t:INCH SEA ANNE LONG AHEM TOUT",
+    "word:" DIGITS,
+    "hex:" BLANKS_64 BLANKS_64 BLANKS_64 BLANKS_64,
+};
+
 static void call_read_reply(void)
 {
-    lift_read_reply(BYTES("INCH SEA ANNE LONG AHEM TOUR"));
-    lift_read_reply(BYTES("\t inch sea  anne\r\nlong ahem tour \n"));
-    lift_read_reply(BYTES("A A A A A A"));
-    lift_read_reply(BYTES("9e876134d90499dd"));
-    lift_read_reply(BYTES(" 9E87 6134 D904 99DD "));
-    lift_read_reply(BYTES("INCH SEA ANNE LONG AHEM TOUT"));
-    lift_read_reply(BYTES("XQ SEA ANNE LONG AHEM TOUR"));
-    lift_read_reply(BYTES("INCH SEA ANNE LONG AHEM ZZZZ"));
-    lift_read_reply(BYTES("INCH SEA ANNE LONG AHEM"));
-    lift_read_reply(BYTES("9e876134d90499d"));
-    lift_read_reply(BYTES(""));
+    for (size_t i = 0; i < LENGTH_OF(plain); i++)
+        lift_read_reply((const uint8_t *)plain[i], strlen(plain[i]));
+    for (size_t i = 0; i < LENGTH_OF(extended); i++)
+        lift_read_reply((const uint8_t *)extended[i], strlen(extended[i]));
     lift_read_reply(bytes, 128);
     lift_read_reply(bytes, 129);
 }
@@ -216,6 +253,7 @@ int main(void)
     measure("lift_md5", call_md5);
     measure("lift_sha1", call_sha1);
     measure("lift_password", call_password);
+    measure("lift_read_plain", call_read_plain);
     measure("lift_read_reply", call_read_reply);
     measure("lift_write_hex", call_write_hex);
     measure("lift_write_words", call_write_words);
@@ -225,8 +263,8 @@ int main(void)
     measure("lift_write_card", call_write_card);
     measure("lift_password_of", call_password_of);
     measure("lift_bytes_of", call_bytes_of);
-    measure("painted_reply", call_reply);
-    measure("painted_renew", call_renew);
+    measure("painted_offer", call_offer);
+    measure("painted_offer_renewal", call_offer_renewal);
     printf("wrong %zu\n", wrong_answers());
     return 0;
 }

@@ -1,6 +1,6 @@
-/* Reply and Renew on inputs of each kind: accepted, wrong, not read, refused.
- * Each has the answer that is due, so that what is measured is what it says;
- * those that are answered otherwise are counted. */
+/* The offer of a password and that of a renewal, on inputs of each kind:
+ * accepted, wrong, refused. Each has the answer that is due, so that what is
+ * measured is what it says; those that are answered otherwise are counted. */
 #include <string.h>
 
 #include "bench.h"
@@ -10,14 +10,10 @@
 enum { ROOMS = 32, PLACES = 7, PLACE = 17, LAST = ROOMS - 1 };
 
 /* Document 01's card: the passwords at count 99, of which the account keeps the
- * hash. */
-#define MD5_HEX "85C4 3EE0 3857 765B"
-#define MD5_WORDS "FOWL KID MASH DEAD DUAL OAF"
-#define SHA1_HEX "C891 F389 B68D E9EC"
-#define SHA1_WORDS "ONCE GRAB SOOT CUBE SLAY WAIT"
-#define WRONG "0000000000000000"
-#define BLANKS "                "
-#define BLANKS_129 BLANKS BLANKS BLANKS BLANKS BLANKS BLANKS BLANKS BLANKS " "
+ * hash, by either algorithm. */
+#define BY_MD5 0x85c43ee03857765b
+#define BY_SHA1 0xc891f389b68de9ec
+#define NEW_PASSWORD 0x0707070707070707
 
 /* The account's present seed, the oldest that it remembers, and a new one that
  * is like all eight up to the last character. */
@@ -25,66 +21,47 @@ enum { ROOMS = 32, PLACES = 7, PLACE = 17, LAST = ROOMS - 1 };
 #define OLDEST "dog2dog2dog2dog9"
 #define NEW "DOG2DOG2DOG2DOG2"
 
-static const struct reply {
+static const struct offer {
     uint32_t algorithm;
     uint8_t port;
-    const uint8_t *text;
-    size_t len;
+    uint64_t password;
     uint32_t due;
-} replies[] = {
-    {LIFT_MD5, 0, BYTES(MD5_HEX), 0},
-    {LIFT_MD5, 0, BYTES(MD5_WORDS), 0},
-    {LIFT_SHA1, 0, BYTES(SHA1_HEX), 0},
-    {LIFT_SHA1, 0, BYTES(SHA1_WORDS), 0},
-    {LIFT_MD5, 0, BYTES(WRONG), LIFT_REPLY_WRONG},
-    {LIFT_MD5, 0, BYTES(SHA1_WORDS), LIFT_REPLY_WRONG},
-    {LIFT_SHA1, 0, BYTES(MD5_WORDS), LIFT_REPLY_WRONG},
-    {LIFT_MD5, 0, BYTES(BLANKS_129), LIFT_REPLY_LONG},
-    {LIFT_MD5, 0, BYTES("XQ KID MASH DEAD DUAL OAF"), LIFT_WORD_UNKNOWN},
-    {LIFT_MD5, 0, BYTES("FOWL KID MASH DEAD DUAL OAK"), LIFT_PAIR_SUM_WRONG},
-    {LIFT_MD5, 0, BYTES(""), LIFT_REPLY_UNREAD},
-    {LIFT_MD5, 0, BYTES("hex:" MD5_HEX), 0},
-    {LIFT_SHA1, 0, BYTES("word:" SHA1_WORDS), 0},
-    {LIFT_MD5, 0, BYTES("init-hex:" MD5_HEX ":md5 9999 " NEW ":" WRONG), 0},
-    {LIFT_SHA1, 0, BYTES("init-word:" SHA1_WORDS ":sha1 2 t:" MD5_WORDS), 0},
-    {LIFT_SHA1, 0, BYTES("init-word:" SHA1_WORDS BLANKS_129 ":sha1 9999 " NEW ":" MD5_WORDS BLANKS BLANKS " "), 0},
-    {LIFT_SHA1, 0, BYTES("init-word:" MD5_WORDS ":sha1 9999 " NEW ":" MD5_WORDS), LIFT_REPLY_WRONG},
-    {LIFT_MD5, 0, BYTES("init-hex:" MD5_HEX ":md5 9999 " OLDEST ":" WRONG), LIFT_SEED_SAME},
-    {LIFT_MD5, 0, BYTES("init-word:" MD5_WORDS ":md5 9999 " NEW ":XQ KID MASH DEAD DUAL OAF"), LIFT_WORD_UNKNOWN},
-    {LIFT_MD5, 0, BYTES("init-hex:" MD5_HEX ":md5 10000 " NEW ":" WRONG), LIFT_COUNT_OUTSIDE},
-    {LIFT_MD5, 0, BYTES("HEX:" MD5_HEX), LIFT_TYPE_UNKNOWN},
-    {LIFT_MD5, 0, BYTES("hex:" MD5_HEX ":"), LIFT_PARTS_WRONG},
-    {LIFT_MD5, 0, BYTES("hex:" BLANKS_129 BLANKS_129), LIFT_REPLY_LONG},
-    {LIFT_MD5, 1, BYTES(MD5_HEX), LIFT_PORT_NOT_IN_FRONT},
-    {LIFT_MD5, 2, BYTES(MD5_HEX), LIFT_PORT_NOT_IN_LINE},
-    {LIFT_MD5, 4, BYTES(MD5_HEX), LIFT_PORT_UNKNOWN},
+} offers[] = {
+    {LIFT_MD5, 0, BY_MD5, 0},
+    {LIFT_SHA1, 0, BY_SHA1, 0},
+    {LIFT_MD5, 0, 0, LIFT_REPLY_WRONG},
+    {LIFT_MD5, 0, BY_SHA1, LIFT_REPLY_WRONG},
+    {LIFT_SHA1, 0, BY_MD5, LIFT_REPLY_WRONG},
+    {LIFT_SHA1, 0, UINT64_MAX, LIFT_REPLY_WRONG},
+    {LIFT_MD5, 1, BY_MD5, LIFT_PORT_NOT_IN_FRONT},
+    {LIFT_MD5, 2, BY_MD5, LIFT_PORT_NOT_IN_LINE},
+    {LIFT_MD5, 4, BY_MD5, LIFT_PORT_UNKNOWN},
 };
 
 static const struct renewal {
-    struct reply reply;
+    struct offer offer;
     uint16_t count;
     const uint8_t *seed;
     size_t len;
 } renewals[] = {
-    {{LIFT_MD5, 0, BYTES(MD5_HEX), 0}, 9999, BYTES(NEW)},
-    {{LIFT_MD5, 0, BYTES(MD5_WORDS), 0}, 2, BYTES("t")},
-    {{LIFT_SHA1, 0, BYTES(SHA1_HEX), 0}, 9999, BYTES(NEW)},
-    {{LIFT_SHA1, 0, BYTES(SHA1_WORDS), 0}, 2, BYTES("t")},
-    {{LIFT_MD5, 0, BYTES(MD5_HEX), LIFT_SEED_SAME}, 9999, BYTES(PRESENT)},
-    {{LIFT_MD5, 0, BYTES(MD5_HEX), LIFT_SEED_SAME}, 9999, BYTES(OLDEST)},
-    {{LIFT_MD5, 0, BYTES(WRONG), LIFT_REPLY_WRONG}, 9999, BYTES(NEW)},
-    {{LIFT_SHA1, 0, BYTES(MD5_WORDS), LIFT_REPLY_WRONG}, 9999, BYTES(NEW)},
-    {{LIFT_MD5, 0, BYTES("XQ KID MASH DEAD DUAL OAF"), LIFT_WORD_UNKNOWN}, 9999, BYTES(NEW)},
-    {{LIFT_MD5, 0, BYTES(""), LIFT_REPLY_UNREAD}, 9999, BYTES(NEW)},
-    {{LIFT_MD5, 0, BYTES(MD5_HEX), LIFT_COUNT_OUTSIDE}, 10000, BYTES(NEW)},
-    {{3, 0, BYTES(MD5_HEX), LIFT_ALGORITHM_UNKNOWN}, 9999, BYTES(NEW)},
-    {{LIFT_MD5, 0, BYTES(MD5_HEX), LIFT_SEED_LENGTH}, 9999, BYTES("")},
-    {{LIFT_MD5, 0, BYTES(MD5_HEX), LIFT_SEED_CHARACTER}, 9999, BYTES("te_st")},
-    {{LIFT_MD5, 1, BYTES(MD5_HEX), LIFT_PORT_NOT_IN_FRONT}, 9999, BYTES(NEW)},
+    {{LIFT_MD5, 0, BY_MD5, 0}, 9999, BYTES(NEW)},
+    {{LIFT_MD5, 0, BY_MD5, 0}, 2, BYTES("t")},
+    {{LIFT_SHA1, 0, BY_SHA1, 0}, 9999, BYTES(NEW)},
+    {{LIFT_SHA1, 0, BY_SHA1, 0}, 2, BYTES("t")},
+    {{LIFT_MD5, 0, BY_MD5, LIFT_SEED_SAME}, 9999, BYTES(PRESENT)},
+    {{LIFT_MD5, 0, BY_MD5, LIFT_SEED_SAME}, 9999, BYTES(OLDEST)},
+    {{LIFT_MD5, 0, 0, LIFT_REPLY_WRONG}, 9999, BYTES(NEW)},
+    {{LIFT_SHA1, 0, BY_MD5, LIFT_REPLY_WRONG}, 9999, BYTES(NEW)},
+    {{LIFT_MD5, 0, BY_MD5, LIFT_COUNT_OUTSIDE}, 10000, BYTES(NEW)},
+    {{LIFT_MD5, 0, BY_MD5, LIFT_COUNT_OUTSIDE}, 0, BYTES(NEW)},
+    {{3, 0, BY_MD5, LIFT_ALGORITHM_UNKNOWN}, 9999, BYTES(NEW)},
+    {{LIFT_MD5, 0, BY_MD5, LIFT_SEED_LENGTH}, 9999, BYTES("")},
+    {{LIFT_MD5, 0, BY_MD5, LIFT_SEED_CHARACTER}, 9999, BYTES("te_st")},
+    {{LIFT_MD5, 1, BY_MD5, LIFT_PORT_NOT_IN_FRONT}, 9999, BYTES(NEW)},
+    {{LIFT_MD5, 4, BY_MD5, LIFT_PORT_UNKNOWN}, 9999, BYTES(NEW)},
 };
 
 static uint8_t older[ROOMS * PLACES * PLACE];
-static const uint8_t password[8] = {7, 7, 7, 7, 7, 7, 7, 7};
 static size_t wrong;
 
 static uint64_t stored_by(uint32_t algorithm)
@@ -104,25 +81,24 @@ static void remember_seven(void)
     }
 }
 
-void call_reply(void)
+void call_offer(void)
 {
-    for (size_t i = 0; i < LENGTH_OF(replies); i++) {
-        const struct reply *each = &replies[i];
-        remember_seven();
-        wrong += each->due != painted_reply(1, LAST, each->algorithm, stored_by(each->algorithm), each->port,
-                                            each->text, each->len, older);
+    for (size_t i = 0; i < LENGTH_OF(offers); i++) {
+        const struct offer *each = &offers[i];
+        wrong += each->due != painted_offer(1, LAST, each->algorithm, stored_by(each->algorithm), each->port,
+                                            each->password);
     }
 }
 
-void call_renew(void)
+void call_offer_renewal(void)
 {
     for (size_t i = 0; i < LENGTH_OF(renewals); i++) {
         const struct renewal *new = &renewals[i];
-        const struct reply *each = &new->reply;
+        const struct offer *each = &new->offer;
         remember_seven();
-        wrong += each->due != painted_renew(1, LAST, each->algorithm, stored_by(each->algorithm), each->port,
-                                            each->text, each->len, older, new->count, new->seed,
-                                            new->len, password);
+        wrong += each->due != painted_offer_renewal(1, LAST, each->algorithm, stored_by(each->algorithm), each->port,
+                                                    older, new->count, new->seed, new->len, NEW_PASSWORD,
+                                                    each->password);
     }
 }
 

@@ -1,5 +1,6 @@
-/* The stack of Reply and Renew, which C can't call: callers of them in the
- * crate `painted`, and the inputs that stack.c has them run on. */
+/* The stack of the offer of a password and of that of a renewal, which C can't
+ * call: callers of them in the crate `painted`, and the inputs that stack.c has
+ * them run on. What reads a text before them is among the functions for C. */
 #ifndef TURNS_H
 #define TURNS_H
 
@@ -11,15 +12,16 @@
 
 /* Each has a table of 32 accounts with that algorithm and that stored password,
  * makes its call that many times, and gives the last answer: 0, or the number
- * of the refusal. */
-uint32_t painted_reply(uint32_t times, uint8_t room, uint32_t algorithm, uint64_t stored, uint8_t port,
-                       const uint8_t *text, size_t text_len, uint8_t older[3808]);
-uint32_t painted_renew(uint32_t times, uint8_t room, uint32_t algorithm, uint64_t stored, uint8_t port,
-                       const uint8_t *text, size_t text_len, uint8_t older[3808], uint16_t count,
-                       const uint8_t *seed, size_t seed_len, const uint8_t password[8]);
+ * of the refusal. A renewal is to the account's own algorithm, by the number
+ * that is given. */
+uint32_t painted_offer(uint32_t times, uint8_t room, uint32_t algorithm, uint64_t stored, uint8_t port,
+                       uint64_t password);
+uint32_t painted_offer_renewal(uint32_t times, uint8_t room, uint32_t algorithm, uint64_t stored, uint8_t port,
+                               uint8_t older[3808], uint16_t count, const uint8_t *seed, size_t seed_len,
+                               uint64_t new_password, uint64_t password);
 
-void call_reply(void);
-void call_renew(void);
+void call_offer(void);
+void call_offer_renewal(void);
 
 /* How many of the calls so far weren't answered as they should be. */
 size_t wrong_answers(void);

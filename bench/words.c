@@ -7,8 +7,9 @@
 #include "heimdal.h"
 #include "lift.h"
 
-/* room for the longest text, 29 bytes, and for the NUL that Heimdal wants */
-enum { PASSWORDS = 4096, ROOM = 32 };
+/* room for the longest text, 29 bytes, with a type of five before it, and for
+ * the NUL that Heimdal wants */
+enum { PASSWORDS = 4096, ROOM = 40 };
 
 typedef struct {
     char bytes[ROOM];
@@ -17,19 +18,25 @@ typedef struct {
 
 static uint64_t passwords[PASSWORDS];
 static unsigned char keys[PASSWORDS][8];
-static written_text words[PASSWORDS], misread[PASSWORDS], hex[PASSWORDS];
+static written_text words[PASSWORDS], misread[PASSWORDS], extended[PASSWORDS], hex[PASSWORDS];
 
 typedef uint64_t reader(const written_text *text);
 typedef size_t writer(size_t which, char buf[ROOM]);
 
-static uint64_t proved_reader(const written_text *text)
+static uint64_t plain_reader(const written_text *text)
+{
+    return lift_read_plain((const uint8_t *)text->bytes, text->len).password;
+}
+
+/* Plain or extended: what comes before an offer. */
+static uint64_t reply_reader(const written_text *text)
 {
     return lift_read_reply((const uint8_t *)text->bytes, text->len).password;
 }
 
 static uint32_t marks_of(const written_text *text)
 {
-    return lift_read_reply((const uint8_t *)text->bytes, text->len).marks;
+    return lift_read_plain((const uint8_t *)text->bytes, text->len).marks;
 }
 
 static uint64_t heimdal_words_reader(const written_text *text)
@@ -84,6 +91,13 @@ static written_text first_misread(written_text text)
     return text;
 }
 
+static written_text of_type_word(written_text text)
+{
+    written_text typed = {"word:", text.len + 5};
+    memcpy(typed.bytes + 5, text.bytes, text.len);
+    return typed;
+}
+
 static void make_passwords(void)
 {
     uint64_t state = 2289;
@@ -92,6 +106,7 @@ static void make_passwords(void)
         lift_bytes_of(passwords[i], keys[i]);
         words[i].len = proved_words_writer(i, words[i].bytes);
         misread[i] = first_misread(words[i]);
+        extended[i] = of_type_word(words[i]);
         hex[i].len = proved_hex_writer(i, hex[i].bytes);
     }
 }
@@ -111,9 +126,11 @@ void check_words(void)
 {
     make_passwords();
     for (size_t i = 0; i < PASSWORDS; i++) {
-        same(proved_reader(&words[i]) == passwords[i], "words read, the password written");
+        same(plain_reader(&words[i]) == passwords[i], "words read, the password written");
+        same(reply_reader(&words[i]) == passwords[i], "words read as a reply, the password written");
+        same(reply_reader(&extended[i]) == passwords[i], "words of an extended reply read, the password written");
         same(marks_of(&misread[i]) == LIFT_MARK(1), "words misread, the first marked");
-        same(proved_reader(&hex[i]) == passwords[i], "hex read, the password written");
+        same(plain_reader(&hex[i]) == passwords[i], "hex read, the password written");
         if (heimdal != NULL)
             check_heimdal(i);
     }
@@ -127,7 +144,7 @@ typedef struct {
 
 /* Heimdal is the last, since it may not be there. */
 static const subject subjects[] = {
-    {"proved", proved_reader, proved_reader, proved_words_writer, proved_hex_writer},
+    {"proved", plain_reader, plain_reader, proved_words_writer, proved_hex_writer},
     {"heimdal", heimdal_words_reader, heimdal_hex_reader, heimdal_words_writer, heimdal_hex_writer},
 };
 
@@ -161,27 +178,40 @@ static void time_subject(const subject *one)
     time_writer("hex-written", one->whose, one->write_hex);
 }
 
-/* What it costs that a misread line is looked up to its end (R-2): beside lines of known words, and beside Heimdal, which stops at
- * the first unknown word. */
-static void time_misread(size_t round)
+typedef struct {
+    const char *what, *whose;
+    reader *read;
+    const written_text *texts;
+} reading;
+
+/* What it costs that a misread line is looked up to its end (R-2): beside lines
+ * of known words, and beside Heimdal, which stops at the first unknown word. And
+ * what it costs that a reply may be extended (R-7): beside the reader of plain
+ * texts. Heimdal's are the last, since it may not be there. */
+enum { HEIMDALS = 2 };
+static const reading readings[] = {
+    {"words-misread", "proved", plain_reader, misread},
+    {"words-misread", "known", plain_reader, words},
+    {"reply-read", "proved", reply_reader, words},
+    {"reply-read", "plainly", plain_reader, words},
+    {"extended-read", "proved", reply_reader, extended},
+    {"extended-read", "plainly", plain_reader, words},
+    {"words-misread", "heimdal", heimdal_words_reader, misread},
+    {"reply-read", "heimdal", heimdal_words_reader, words},
+};
+
+static void time_readings(size_t round)
 {
-    size_t there = heimdal == NULL ? 2 : 3;
-    for (size_t k = 0; k < there; k++)
-        switch (rotated(round, k, there)) {
-        case 0:
-            time_reader("words-misread", "proved", proved_reader, misread);
-            break;
-        case 1:
-            time_reader("words-misread", "known", proved_reader, words);
-            break;
-        default:
-            time_reader("words-misread", "heimdal", heimdal_words_reader, misread);
-        }
+    size_t there = LENGTH_OF(readings) - (heimdal == NULL ? HEIMDALS : 0);
+    for (size_t k = 0; k < there; k++) {
+        const reading *one = &readings[rotated(round, k, there)];
+        time_reader(one->what, one->whose, one->read, one->texts);
+    }
 }
 
 void time_words(size_t round)
 {
-    time_misread(round);
+    time_readings(round);
     size_t there = heimdal == NULL ? 1 : LENGTH_OF(subjects);
     for (size_t k = 0; k < there; k++)
         time_subject(&subjects[rotated(round, k, there)]);

@@ -97,6 +97,7 @@ int main(void)
     make_fields();
     check_passwords();
     check_replies();
+    check_texts();
     check_extended();
     check_challenges();
     return 0;

@@ -48,6 +48,7 @@ void check_writer(lift_written (*write)(uint64_t, uint8_t *, size_t),
 /* The parts. */
 void check_passwords(void);
 void check_replies(void);
+void check_texts(void);
 void check_extended(void);
 void check_challenges(void);
 

@@ -12,6 +12,12 @@ _Static_assert(sizeof(lift_challenge) == 40 && offsetof(lift_challenge, seed_at)
 _Static_assert(sizeof(lift_reading) == 16 && offsetof(lift_reading, refusal) == 8 &&
                    offsetof(lift_reading, marks) == 12,
                "lift_reading");
+_Static_assert(sizeof(lift_reply) == 56 && offsetof(lift_reply, password) == 0 &&
+                   offsetof(lift_reply, new_password) == 8 && offsetof(lift_reply, seed_at) == 16 &&
+                   offsetof(lift_reply, seed_len) == 24 && offsetof(lift_reply, init) == 32 &&
+                   offsetof(lift_reply, algorithm) == 36 && offsetof(lift_reply, count) == 40 &&
+                   offsetof(lift_reply, refusal) == 44 && offsetof(lift_reply, marks) == 48,
+               "lift_reply");
 _Static_assert(sizeof(lift_written) == 16 && offsetof(lift_written, refusal) == 8, "lift_written");
 
 /* Names of no algorithm: none, other case, too much or too little of one, two, others. */

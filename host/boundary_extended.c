@@ -1,4 +1,4 @@
-/* The boundary of extended replies. */
+/* The boundary of extended replies that are written. */
 #include "boundary.h"
 
 /* 01's password for count 99, and a new one. */
@@ -36,7 +36,7 @@ static lift_written as_example(uint64_t password, uint8_t *buf, size_t buf_len)
     return lift_write_extended(LIFT_INIT_HEX, password, LIFT_MD5, 499, seed, SEED, 0x3712dcb4aa5316c1u, buf, buf_len);
 }
 
-static void check_texts(void)
+static void check_written(void)
 {
     check_writer(as_hex, present, "hex:85c43ee03857765b");
     check_writer(as_hex, 0, "hex:0000000000000000");
@@ -134,7 +134,7 @@ static void check_types(void)
 
 void check_extended(void)
 {
-    check_texts();
+    check_written();
     check_logins(LIFT_HEX, strlen("hex:85c43ee03857765b"));
     check_logins(LIFT_WORD, strlen("word:FOWL KID MASH DEAD DUAL OAF"));
     for (size_t i = 0; i < sizeof inits / sizeof *inits; i++)

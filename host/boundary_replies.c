@@ -1,10 +1,10 @@
-/* The boundary of replies, hex and words. */
+/* The boundary of plain replies, hex and words. */
 #include "boundary.h"
 
 static lift_reading reply(int side, const void *bytes, size_t len)
 {
     uint8_t *text = text_at(side, 0, bytes, len);
-    lift_reading r = lift_read_reply(text, len);
+    lift_reading r = lift_read_plain(text, len);
     CHECK(len == 0 || memcmp(text, bytes, len) == 0);
     return r;
 }
@@ -14,7 +14,7 @@ static lift_reading reply_text(int side, const char *text)
     return reply(side, text, strlen(text));
 }
 
-static void check_read_reply(int side)
+static void check_read_plain(int side)
 {
     uint8_t long_text[FIELD];
     CHECK(reads(reply_text(side, "FOWL KID MASH DEAD DUAL OAF"), 0x85c43ee03857765bu));
@@ -28,8 +28,9 @@ static void check_read_reply(int side)
     CHECK(refuses(reply_text(side, "FOWL KID MASH DEAD DUAL"), 33, 0));
     CHECK(refuses(reply_text(side, "hex:85c43ee03857765b"), 33, 0)); /* no plain text */
     CHECK(refuses(reply_text(side, "word:FOWL KID MASH DEAD DUAL OAF"), 33, 0));
+    CHECK(refuses(reply_text(side, "HEX:85c43ee03857765b:"), 33, 0));
     CHECK(refuses(reply_text(side, ""), 33, 0));
-    CHECK(refuses(lift_read_reply(NULL, 0), 33, 0));
+    CHECK(refuses(lift_read_plain(NULL, 0), 33, 0));
     for (uint32_t marks = 1; marks <= 63; marks++) {
         char text[] = "A A A A A A";
         for (int word = 1; word <= 6; word++)
@@ -45,12 +46,12 @@ static void check_read_reply(int side)
     CHECK(refuses(reply(side, long_text, sizeof long_text), 30, 0));
 }
 
-static void check_read_reply_large(void)
+static void check_read_plain_large(void)
 {
     size_t len;
     uint8_t *large = beyond_32_bits(16, &len);
     memset(large, '0', 128);
-    CHECK(refuses(lift_read_reply(large, len), 30, 0));
+    CHECK(refuses(lift_read_plain(large, len), 30, 0));
     unmap(large, len);
 }
 
@@ -70,9 +71,9 @@ static void check_bytes(uint64_t password, const uint8_t bytes[8])
 void check_replies(void)
 {
     for (int side = 0; side < SIDES; side++)
-        check_read_reply(side);
-    check_read_reply_large();
-    done("lift_read_reply");
+        check_read_plain(side);
+    check_read_plain_large();
+    done("lift_read_plain");
     check_writer(lift_write_hex, 0, "0000000000000000");
     check_writer(lift_write_hex, UINT64_MAX, "ffffffffffffffff");
     check_writer(lift_write_hex, 0x85c43ee03857765bu, "85c43ee03857765b");

@@ -43,18 +43,63 @@ static void print_marks(uint32_t marks)
         putchar(marks & LIFT_MARK(k) ? '1' : '0');
 }
 
-/* After a refusal every field but 31's marks has to be 0; those are 1 to 63. */
-static void print_reading(lift_reading r)
+/* A refusal, with 31's marks. */
+static void print_refusal(uint32_t refusal, uint32_t marks)
 {
-    bool clean = (r.refusal == 0 || r.password == 0) && (r.refusal == 31 ? 1 <= r.marks && r.marks <= 63 : r.marks == 0);
-    if (r.refusal == 0)
-        printf("ok %016" PRIx64, r.password);
-    else
-        printf("no %" PRIu32, r.refusal);
-    if (r.refusal == 31) {
+    printf("no %" PRIu32, refusal);
+    if (refusal == 31) {
         putchar(' ');
-        print_marks(r.marks);
+        print_marks(marks);
     }
+}
+
+/* 31's marks are 1 to 63; without it there are none. */
+static bool marks_clean(uint32_t refusal, uint32_t marks)
+{
+    return refusal == 31 ? 1 <= marks && marks <= 63 : marks == 0;
+}
+
+/* After a refusal every field but 31's marks has to be 0. */
+static void print_reading(const char *good, lift_reading r)
+{
+    bool clean = (r.refusal == 0 || r.password == 0) && marks_clean(r.refusal, r.marks);
+    if (r.refusal == 0)
+        printf("%s %016" PRIx64, good, r.password);
+    else
+        print_refusal(r.refusal, r.marks);
+    puts(clean ? "" : " dirty");
+}
+
+/* Of a login the password is all there is; after a refusal not even that. */
+static bool no_renewal(lift_reply r)
+{
+    return r.init == 0 && r.new_password == 0 && r.algorithm == 0 && r.count == 0 && r.seed_at == 0 && r.seed_len == 0;
+}
+
+/* The seed is a part of the text; none is the empty part at its start. */
+static bool seed_inside(lift_reply r, size_t len)
+{
+    return r.seed_len == 0 ? r.seed_at == 0 : r.seed_at < len && r.seed_len <= len - r.seed_at;
+}
+
+static void print_renewal(const word *text, lift_reply r)
+{
+    printf("ok init %" PRIu32 " %" PRIu32 " ", r.algorithm, r.count);
+    if (seed_inside(r, text->len))
+        print_hex(r.seed_len == 0 ? NULL : text->bytes + r.seed_at, r.seed_len);
+    printf(" %016" PRIx64 " %016" PRIx64, r.new_password, r.password);
+}
+
+static void print_reply(const word *text, lift_reply r)
+{
+    bool clean = marks_clean(r.refusal, r.marks) && (r.refusal == 0 || r.password == 0) &&
+                 ((r.refusal == 0 && r.init == 1) ? seed_inside(r, text->len) : no_renewal(r));
+    if (r.refusal != 0)
+        print_refusal(r.refusal, r.marks);
+    else if (r.init == 1)
+        print_renewal(text, r);
+    else
+        printf("ok pw %016" PRIx64, r.password);
     puts(clean ? "" : " dirty");
 }
 
@@ -103,13 +148,18 @@ static void answer_sha1(const word *given)
 
 static void answer_gen(const word *given)
 {
-    print_reading(lift_password((uint32_t)given[0].number, given[1].bytes, given[1].len,
-                                given[2].bytes, given[2].len, (uint32_t)given[3].number));
+    print_reading("ok", lift_password((uint32_t)given[0].number, given[1].bytes, given[1].len,
+                                      given[2].bytes, given[2].len, (uint32_t)given[3].number));
 }
 
 static void answer_read(const word *given)
 {
-    print_reading(lift_read_reply(given[0].bytes, given[0].len));
+    print_reply(&given[0], lift_read_reply(given[0].bytes, given[0].len));
+}
+
+static void answer_readplain(const word *given)
+{
+    print_reading("ok pw", lift_read_plain(given[0].bytes, given[0].len));
 }
 
 static void answer_hex(const word *given)
@@ -172,6 +222,7 @@ static const call calls[] = {
     {"sha1", "t", answer_sha1},
     {"gen", "attn", answer_gen},
     {"read", "t", answer_read},
+    {"readplain", "t", answer_readplain},
     {"hex", "pr", answer_hex},
     {"words", "pr", answer_words},
     {"chal", "t", answer_chal},

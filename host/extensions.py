@@ -1,5 +1,5 @@
 """What scripts show of extended replies and of the challenge's mark (R-6): read from calls and answers. The model is asked for a word's bytes, and for the
-dictionary; what a text says is told apart here by itself."""
+dictionary; what a text says is told apart here by itself. offers.py has what they show of texts that are read alone, and of the order of refusals (R-7)."""
 import collections
 import itertools
 import re
@@ -8,8 +8,6 @@ from model import PLACE_OF, text_in
 
 LOGINS, RENEWALS = (b"hex", b"word"), (b"init-hex", b"init-word")
 TYPES = [*LOGINS, *RENEWALS]
-# what is answered before the text is looked at
-BEFORE = ("55", "59", "60", "58")
 OF_WORDS, OF_VALUES = ("31", "32"), ("51", "21", "23", "24", "63")
 # each type's answers; those of the writer
 ANSWERS = {kind.decode(): ["ok", "61", "62", "30", "33", "35", *(OF_WORDS if kind.endswith(b"word") else ()), *(OF_VALUES if kind in RENEWALS else ())]
@@ -17,16 +15,16 @@ ANSWERS = {kind.decode(): ["ok", "61", "62", "30", "33", "35", *(OF_WORDS if kin
 WRITTEN = {kind.decode(): ["ok", "40", *(("51", "21", "23", "24") if kind in RENEWALS else ())] for kind in TYPES}
 LIMITS = ["ok, 128 bytes", "ok, 129 bytes", "ok, 256 bytes", "30, 257 bytes"]
 LAYOUTS = ["34, in upper case", "34, with a blank", "34, no name", "34, another name", "34 before 35", "30 before 34", "30 before 35",
-           *(f"{number} before 30 or 34" for number in BEFORE),
            "35, a login with a part too many", "35, a renewal with a part too few", "35, a renewal with a part too many",
-           "33, a login with nothing", "51, blank parameters", "51, the parameters in front"]
+           "33, a login with nothing", "33, the parameters in front", "51, blank parameters"]
 VALUES = ["51, a leading zero", "51, a byte that is no digit", "51, no count", "51, a count of 1", "51, five digits or more", "ok, a count of 9999",
           "ok, a count of 2",
           "51 before 21", "21 before 23 or 24", "21, a name in upper case", "23, no seed", "23, 17 characters or more", "24, a blank in the seed",
-          "24, another character", "63, in upper case", "63 before 33", "ok, a seed in upper case"]
-PASSWORDS = ["31, the new password's marks", "31, the present password's marks", "33, hex for words", "33, words for hex", "ok or 61, words as hex",
-             "33, the new password alone is blank", "33, the present password alone is blank"]
-PLAIN = ["33 by read, a colon", "30 by read, a colon", "33 by renew, a colon", "30 by renew, a colon"]
+          "24, another character", "63, in upper case", "ok, a seed in upper case"]
+# which of a renewal's two passwords isn't read; what else a password shows
+EITHER = ["31, the new password's marks", "31, the present password's marks", "33, the new password alone is blank", "33, the present password alone is blank"]
+PASSWORDS = [*EITHER, "33, hex for words", "33, words for hex", "ok or 61, words as hex"]
+PLAIN = ["33 by readplain, a colon", "30 by readplain, a colon", "33 by renew, a colon", "30 by renew, a colon"]
 MARKS = ["1, ext", "1, ext and a comma", "1, ext and a list", "1, a carriage return in the list", "1, past a tab", "1, ended by a space",
          "1, ended by a newline",
          "0, EXT", "0, extra", "0, ext and a carriage return", "0, ended by a tab", "0, ended by nothing", "0, after a newline", "0, another token first",
@@ -92,6 +90,15 @@ def passwords_of(number, kind, part):
             ("ok or 61, words as hex", number in ("ok", "61") and not words and are_words(part))]
 
 
+def either(number, answer, present, new):
+    """Which of the two passwords of a renewal isn't read."""
+    said = answer.split(" ")[-1]
+    return picked(("31, the new password's marks", number == "31" and said == marks(new) != marks(present)),
+                  ("31, the present password's marks", number == "31" and said == marks(present) != marks(new)),
+                  ("33, the new password alone is blank", number == "33" and not tokens(new) and tokens(present)),
+                  ("33, the present password alone is blank", number == "33" and not tokens(present) and tokens(new)))
+
+
 def counts(number, digits):
     """What the word where the count stands shows."""
     return picked(("51, a leading zero", number == "51" and re.fullmatch(rb"0[0-9]{1,3}", digits)),
@@ -123,25 +130,18 @@ def renewal(number, answer, kind, parts):
     """What a reply of four parts shows."""
     present, parameters, new = parts
     name, digits, seed = new_values(parameters)
-    said = answer.split(" ")[-1]
     yield from counts(number, digits)
     yield from names(number, name, seed)
     yield from seeds(number, seed)
     yield from picked(("51, blank parameters", number == "51" and not tokens(parameters)),
-                      ("51, the parameters in front", number == "51" and tokens(present)[:1] in ([b"md5"], [b"sha1"])),
-                      ("63 before 33", number == "63" and not (tokens(new) and tokens(present))),
-                      ("31, the new password's marks", number == "31" and said == marks(new) != marks(present)),
-                      ("31, the present password's marks", number == "31" and said == marks(present) != marks(new)),
-                      ("33, the new password alone is blank", number == "33" and not tokens(new) and tokens(present)),
-                      ("33, the present password alone is blank", number == "33" and not tokens(present) and tokens(new)),
-                      *passwords_of(number, kind, new))
+                      ("33, the parameters in front", number == "33" and tokens(present)[:1] in ([b"md5"], [b"sha1"])), *passwords_of(number, kind, new))
+    yield from either(number, answer, present, new)
 
 
 def replied(number, answer, text):
     """What an extended reply shows."""
     kind, *parts = text.split(b":")
     yield from picked(*((f"ok, {length} bytes", number == "ok" and len(text) == length) for length in (128, 129, 256)),
-                      (f"{number} before 30 or 34", number in BEFORE and (len(text) > 256 or kind not in TYPES)),
                       (f"{number} by {kind.decode('latin-1')}", number in ANSWERS.get(kind.decode("latin-1"), ())))
     if number == "30":
         yield from too_long(text, kind, parts)
@@ -195,7 +195,7 @@ def shown(line, answer):
         return []
     if name == "chal" and number == "ok":
         return marked(answer, text_in(words[0]))
-    if name in ("read", "renew") and number in ("30", "33") and b":" in text_in(words[-1]):
+    if name in ("readplain", "renew") and number in ("30", "33") and b":" in text_in(words[-1]):
         return [f"{number} by {name}, a colon"]
     return replied(number, answer, text_in(words[1])) if name == "reply" and b":" in text_in(words[1]) else []
 

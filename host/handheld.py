@@ -12,14 +12,14 @@ from sections import replies
 Sent = collections.namedtuple("Sent", "kind present name count seed new")
 WRONG_TYPES = [b"", b"hexa", b"he", b"words", b"wor", b"init", b"init-", b"init-he", b"init-md5", b"inithex", b"init hex", b"init_word", b"md5", b"skey",
                b"hex\0", b"hex,word", b"-hex", b"init-init-hex"]
-WRONG_COUNTS = [b"0499", b"x", b"", b"0", b"1", b"10000", b"00", b"-5", b"+5", b"5.", b"5e1", b"65538", b"99999999999999999999"]
+WRONG_COUNTS = [b"0499", b"007", b"x", b"", b"0", b"1", b"10000", b"12345", b"00", b"-5", b"+5", b"5.", b"1.5", b"5e1", b"65538", b"99999999999999999999"]
 WRONG_NAMES = [b"MD5", b"Sha1", b"md4", b"sha", b"otp-md5", b"md5,", b"1"]
 LENGTHS = [126, 127, *[128, 129] * 4, 130, 254, 255, *[256, 257] * 4, 258]
 
 
 def spelt(rng, kind, password):
     """A password as the type has it, in some case, with white space."""
-    spaced = replies.spaced(rng, model.WRITERS[kind.removeprefix(model.INIT)](password).split())
+    spaced = replies.spaced(rng, model.WRITER_OF[kind.removeprefix(model.INIT)](password).split())
     return replies.some_case(rng, spaced)
 
 
@@ -130,9 +130,23 @@ def wrong_values(rng, reply):
     """Something wrong with one of the new values, or with several; now and then the passwords too."""
     changed = {"name": rng.choice([b"", *WRONG_NAMES]), "count": rng.choice(WRONG_COUNTS),
                "seed": rng.choice([b"", reply.seed + b" " + reply.seed, b"A Seed", b"a\tb", reply.seed + b"_", b"_", b"LengthOfSeventeen",
-                                   reply.seed + b"x" * 16])}
+                                   reply.seed + b"x" * 16, b"x" * 120])}
     names = rng.sample([*changed, "seed"], rng.choice([1, 1, 1, 2, 3]))
     return rng.choice([text_of] * 4 + [unread_both])(rng, reply._replace(**{name: changed[name] for name in names}))
+
+
+def values_missing(rng, reply):
+    """Of algorithm, count and seed the first two at most."""
+    made = parts(rng, reply)
+    if model.is_init(reply.kind):
+        made[2] = replies.spaced(rng, [reply.name, reply.count][:rng.randrange(3)])
+    return b":".join(made)
+
+
+def misread(rng, reply):
+    """Words that aren't in the dictionary, or whose sum is wrong, for one password or for both."""
+    texts = {name: rng.choice([replies.unknown_words, replies.another_word])(rng) for name in rng.choice([["present"], ["new"], ["present", "new"]])}
+    return text_of(rng, reply._replace(**texts))
 
 
 def most_count(rng, reply):
@@ -164,8 +178,9 @@ def any_parts(rng, reply):
 
 
 # some more often, since they show many kinds
-DAMAGES = [other_case, blank_type, wrong_type, other_type, part_missing, part_more, parts_swapped, part_blank, *[near_a_limit] * 5, too_long,
-           unread_present, unread_new, *[unread_both] * 2, *[wrong_values] * 8, *[most_count] * 3, byte_changed, hex_words, any_parts]
+DAMAGES = [other_case, blank_type, wrong_type, other_type, part_missing, part_more, *[parts_swapped] * 2, part_blank, *[near_a_limit] * 5, too_long,
+           unread_present, unread_new, *[unread_both] * 2, *[misread] * 3, *[wrong_values] * 8, *[values_missing] * 3, *[most_count] * 3, byte_changed,
+           *[hex_words] * 2, any_parts]
 
 
 def damaged(rng, reply):

@@ -19,7 +19,7 @@ SANITIZERS = (["-g", "-fsanitize=address,undefined", "-fno-sanitize-recover=all"
               ["-g", "-fsanitize=undefined", "-fsanitize-trap=all"])
 
 # the calls that the driver knows: those of lift.h so far
-IN_C = {"md5", "sha1", "gen", "read", "hex", "words", "chal", "wchal", "wext", "card"}
+IN_C = {"md5", "sha1", "gen", "read", "readplain", "hex", "words", "chal", "wchal", "wext", "card"}
 
 
 class Failed(Exception):

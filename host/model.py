@@ -4,6 +4,7 @@ It shares no code with the proved crates: hashlib gives the digests, and all
 else is written from the two documents and RFC 2289, and for R-6 from RFC 2243's
 example of a reply, which document 02 names. A rule that refuses raises Refused. `python3 host/model.py < SCRIPT` answers a script of replay lines.
 """
+import collections
 import hashlib
 import pathlib
 import re
@@ -181,7 +182,7 @@ def read_six(text):
     return read_words(tokens_in(text))
 
 
-def read_reply(text):
+def read_plain(text):
     """30; six tokens of one to four letters are words; sixteen digits; 33. A colon is neither letter nor digit."""
     refuse_if(len(text) > 128, 30)
     return read_six(text) if is_six(tokens_in(text)) else read_hex(text)
@@ -243,9 +244,9 @@ def write_challenge(algorithm, seed, count, room):
 
 
 # each type's reader and writer of passwords; those of a renewal have `init-` before the name of the others
-READERS, WRITERS = {b"hex": read_hex, b"word": read_six}, {b"hex": hex_of, b"word": words_of}
+READER_OF, WRITER_OF = {b"hex": read_hex, b"word": read_six}, {b"hex": hex_of, b"word": words_of}
 INIT = b"init-"
-TYPES = [*READERS, *(INIT + name for name in READERS)]
+TYPES = [*READER_OF, *(INIT + name for name in READER_OF)]
 
 
 def is_init(kind):
@@ -269,7 +270,8 @@ def parts_of(text):
 
 
 def parameters_of(part):
-    """Algorithm, count and all that follows it, the seed; a name that isn't known, and what is no count, is a number that is refused later."""
+    """Algorithm, count and all that follows it, the seed as it stands. A name that isn't known, and what is no count, is 0: it is refused where it is
+    offered."""
     name, digits, seed = [*re.split(rb"[ \t\r\n]+", part.strip(WHITE), maxsplit=2), b"", b""][:3]
     number = next((number for number, known in NAMES.items() if known == name), 0)
     return number, int(digits) if re.fullmatch(rb"0|[1-9][0-9]{0,3}", digits) else 0, seed
@@ -277,7 +279,7 @@ def parameters_of(part):
 
 def extended_text(kind, password, values=None, new=None):
     """Type, colon, password; for `init` types then colon, algorithm, space, count, space, seed as given, colon, new password."""
-    spelt = WRITERS[kind.removeprefix(INIT)]
+    spelt = WRITER_OF[kind.removeprefix(INIT)]
     if not is_init(kind):
         return b"%s:%s" % (kind, spelt(password))
     algorithm, count, seed = values
@@ -293,6 +295,25 @@ def write_renewal(kind, password, algorithm, count, seed, new, room):
     """51, 21, 23, 24, 40."""
     check_new(algorithm, count, seed)
     return into_room(extended_text(kind, password, (algorithm, count, seed), new), room)
+
+
+# 02, R-7: what the text of a reply is read to; no table is looked at
+
+
+Login = collections.namedtuple("Login", "password")
+Renewal = collections.namedtuple("Renewal", "algorithm count seed new password")
+
+
+def read_reply(text):
+    """A text without a colon is plain. Of an extended one 30, 34, 35; then the new password before the present one. Of the new values nothing is refused."""
+    if b":" not in text:
+        return Login(read_plain(text))
+    kind, parts = parts_of(text)
+    read = READER_OF[kind.removeprefix(INIT)]
+    if not is_init(kind):
+        return Login(read(parts[0]))
+    new = read(parts[2])
+    return Renewal(*parameters_of(parts[1]), new, read(parts[0]))
 
 
 # 01, The card
@@ -419,37 +440,19 @@ class Table:
         account = self.account_in_turn(port)
         return into_room(challenge_text(account.algorithm, account.seeds[0], account.count - 1, b" ext"), room)
 
-    def reply(self, port, text):
-        """The checks of a turn. A text without a colon is plain: 30 to 33. An extended one: 30, 34, 35; the new values, the new password and then the
-        present one, each as far as it has them. Then 61 or 62, or the new count."""
+    def offer(self, port, password):
+        """The checks of a turn. What is accepted is kept, and the count steps down; the answer is the new count."""
         account = self.account_in_turn(port)
-        if b":" not in text:
-            return self.login(port, account, read_reply(text))
-        kind, parts = parts_of(text)
-        read = READERS[kind.removeprefix(INIT)]
-        if not is_init(kind):
-            return self.login(port, account, read(parts[0]))
-        values = parameters_of(parts[1])
-        account.check_renewal(*values)
-        new = read(parts[2])
-        return self.renewal(port, account, *values, new, read(parts[0]))
-
-    def renew(self, port, algorithm, count, seed, password, text):
-        """The checks of a turn, 51, 21, 23, 24, 63; the text is plain."""
-        account = self.account_in_turn(port)
-        account.check_renewal(algorithm, count, seed)
-        return self.renewal(port, account, algorithm, count, seed, password, read_reply(text))
-
-    def login(self, port, account, present):
-        """What is accepted is kept, and the count steps down."""
-        self.offer(port, account, present)
-        account.password = present
+        self.compare(port, account, password)
+        account.password = password
         account.count -= 1
         return account.count
 
-    def renewal(self, port, account, algorithm, count, seed, new, present):
-        """Only what is accepted changes the algorithm, and is remembered."""
-        self.offer(port, account, present)
+    def offer_renewal(self, port, algorithm, count, seed, new, password):
+        """The checks of a turn, 51, 21, 23, 24, 63. Only what is accepted changes the algorithm, and is remembered; the answer is the new count."""
+        account = self.account_in_turn(port)
+        account.check_renewal(algorithm, count, seed)
+        self.compare(port, account, password)
         account.take(algorithm, count, seed, new)
         return count
 
@@ -478,7 +481,7 @@ class Table:
         refuse_if(account.count == 1, 58)
         return account
 
-    def offer(self, port, account, password):
+    def compare(self, port, account, password):
         """Hash once, by the account's algorithm, and compare: the port leaves either way; 61, or 62 at the third."""
         right = hashed_once(account.algorithm, password) == account.password
         account.leave(port)
@@ -537,7 +540,7 @@ def one_of(*names):
 
 
 TEXT, PASSWORD = text_in, password_in
-LOGIN, RENEWAL = one_of(*READERS), one_of(*(INIT + name for name in READERS))
+LOGIN, RENEWAL = one_of(*READER_OF), one_of(*(INIT + name for name in READER_OF))
 ALGORITHM, NUMBER, ROOM, TICKS = number_to(255), number_to(65535), number_to(8192), number_to(100000)
 
 
@@ -550,6 +553,24 @@ def ticks(table, n):
         table.tick()
 
 
+def said(reading):
+    """What a text was read to, in words."""
+    if isinstance(reading, Login):
+        return "pw %016x" % reading
+    return "init %d %d %s %016x %016x" % reading._replace(seed=hex_word(reading.seed))
+
+
+def reply(table, port, text):
+    """02, R-7: a caller reads, then offers. So what the text is refused for comes before what the table refuses."""
+    reading = read_reply(text)
+    return (table.offer if isinstance(reading, Login) else table.offer_renewal)(port, *reading)
+
+
+def renew(table, port, algorithm, count, seed, new, text):
+    """The text is plain."""
+    return table.offer_renewal(port, algorithm, count, seed, new, read_plain(text))
+
+
 # each call's kinds of words, and what it does on the table: the values of its answer
 CALLS = {
     "md5": ([TEXT], lambda t, data: hex_word(digest(MD5, data))),
@@ -557,7 +578,8 @@ CALLS = {
     "gen": ([ALGORITHM, TEXT, TEXT, NUMBER], lambda t, *given: "%016x" % generator(*given)),
     "words": ([PASSWORD, ROOM], lambda t, p, room: into_room(words_of(p), room)),
     "hex": ([PASSWORD, ROOM], lambda t, p, room: into_room(hex_of(p), room)),
-    "read": ([TEXT], lambda t, text: "%016x" % read_reply(text)),
+    "read": ([TEXT], lambda t, text: said(read_reply(text))),
+    "readplain": ([TEXT], lambda t, text: said(Login(read_plain(text)))),
     "chal": ([TEXT], lambda t, text: "%d %d %d %d %d %d" % read_challenge(text)),
     "wchal": ([ALGORITHM, TEXT, NUMBER, ROOM], lambda t, *given: write_challenge(*given)),
     "wext": ([LOGIN, PASSWORD, ROOM], lambda t, *given: write_login(*given)),
@@ -570,8 +592,10 @@ CALLS = {
     "join": ([NUMBER, NUMBER], Table.join),
     "leave": ([NUMBER], Table.leave),
     "challenge": ([NUMBER, ROOM], Table.challenge),
-    "reply": ([NUMBER, TEXT], Table.reply),
-    "renew": ([NUMBER, ALGORITHM, NUMBER, TEXT, PASSWORD, TEXT], Table.renew),
+    "offer": ([NUMBER, PASSWORD], Table.offer),
+    "orenew": ([NUMBER, ALGORITHM, NUMBER, TEXT, PASSWORD, PASSWORD], Table.offer_renewal),
+    "reply": ([NUMBER, TEXT], reply),
+    "renew": ([NUMBER, ALGORITHM, NUMBER, TEXT, PASSWORD, TEXT], renew),
     "tick": ([TICKS], ticks),
     "dump": ([], Table.dump),
 }
@@ -607,5 +631,5 @@ def replay(script):
 
 
 if __name__ == "__main__":
-    for said in replay(sys.stdin.buffer.read().decode("latin-1")):
-        print(said)
+    for one in replay(sys.stdin.buffer.read().decode("latin-1")):
+        print(one)

@@ -1,5 +1,5 @@
 """What scripts show of the seeds that accounts remember (R-5): read from calls and answers; the model is asked for nothing but a word's bytes. A reply of
-an `init` type (R-6) that has all its parts is a renewal."""
+an `init` type (R-6) that has all its parts is a renewal, and so is an offer with new values (R-7)."""
 import collections
 
 import extensions
@@ -8,8 +8,9 @@ from model import text_in
 ALGORITHMS = {b"md5": 1, b"sha1": 2}
 
 PLACES = 8
-# what is answered to a renewal that may name a seed which is taken later
+# what is answered to a renewal that may name a seed which is taken later; of these, what is answered to a text that isn't read, whoever has the turn
 REFUSALS = ("21", "30", "31", "32", "33", "51", "60", "61", "62", "63")
+OF_THE_TEXT = ("30", "31", "32", "33")
 # what can be shown: a renewal's answer, and how many renewals before the account took that seed; what else is true of the seed; what a dump has
 KINDS = [*(f"63, {back} back" for back in range(PLACES)), "ok, 8 back", "ok, 9 back",
          "63 in upper case", "63 under the other algorithm", "63 after a reply", *(f"ok after {number}" for number in REFUSALS),
@@ -28,12 +29,28 @@ def values_in(text):
 
 
 class Account:
-    """The seeds that an account took, newest first, each with its algorithm; `gone` has what isn't its own, by what it is of."""
+    """The seeds that an account took, newest first, each with its algorithm; `gone` has what isn't its own, by what it is of. The ports in its line, front
+    first, and the ticks left of the front's turn."""
 
     def __init__(self, seed, algorithm, gone):
         self.taken, self.gone = [(seed, algorithm)], gone
         self.refused = collections.defaultdict(set)  # by the seed, the refusals of renewals that named it
         self.replied = set()  # the seeds in whose time a reply was accepted, or in that of a newer one
+        self.line, self.turn = [], 0
+
+    def join(self, port):
+        self.turn = self.turn if self.line else 60
+        self.line.append(port)
+
+    def leave(self, port):
+        self.turn = 60 if self.line[0] == port else self.turn
+        self.line.remove(port)
+
+    def tick(self, ticks):
+        while self.line and ticks >= self.turn:
+            ticks, self.turn = ticks - self.turn, 60
+            del self.line[0]
+        self.turn -= ticks
 
     def seeds(self):
         return [seed for seed, _ in self.taken]
@@ -59,22 +76,24 @@ class Account:
 
 
 class Reader:
-    """The accounts, by their ids, and for which account each port joined last."""
+    """The accounts, by their ids."""
 
     def __init__(self):
         self.seen = collections.Counter()
-        self.accounts, self.joined = {}, {}
+        self.accounts = {}
         self.removed, self.room, self.before = {}, (), ()
 
     def read(self, line, answer):
         name, *words = line.split(" ")
         number = answer.split(" ")[1 if answer.startswith("no") else 0]
-        if name in ("renew", "reply") and number in ("ok", *REFUSALS) and (new := self.new_values(name, words)):
+        if name in ("renew", "reply", "orenew") and number in ("ok", *REFUSALS) and (new := self.new_values(name, words)):
             self.renew(number, int(words[0]), *new)
-        elif number == "ok" and name in ("new", "enrol", "remove", "join", "reply"):
+        elif number == "ok" and name in ("new", "enrol", "remove", "join", "leave", "reply", "offer", "tick"):
             getattr(self, name)(*words)
         elif number == "ok" and name == "dump":
             self.dump(answer)
+        if name in ("renew", "reply", "orenew", "offer") and number in ("ok", "61", "62"):
+            self.leave(words[0])
 
     def new(self):
         self.before = self.remembered(self.accounts.values())
@@ -94,20 +113,36 @@ class Reader:
         self.room = self.removed[int(id)] if full else ()
 
     def join(self, port, id):
-        self.joined[int(port)] = int(id)
+        self.accounts[int(id)].join(int(port))
+
+    def leave(self, port):
+        self.waited_for(int(port)).leave(int(port))
+
+    def tick(self, ticks):
+        for account in self.accounts.values():
+            account.tick(int(ticks))
+
+    def waited_for(self, port):
+        """The account in whose line the port is; None: in no line."""
+        return next((account for account in self.accounts.values() if port in account.line), None)
 
     @staticmethod
     def new_values(name, words):
         """The algorithm and the seed that a renewal names; None for a login."""
-        return (int(words[1]), text_in(words[3])) if name == "renew" else values_in(text_in(words[1]))
+        return values_in(text_in(words[1])) if name == "reply" else (int(words[1]), text_in(words[3]))
 
     def reply(self, port, _text):
-        account = self.accounts[self.joined[int(port)]]
+        account = self.waited_for(int(port))
         account.replied |= {*account.seeds()}
 
+    offer = reply
+
     def renew(self, answer, port, algorithm, given):
-        """An answer that isn't 55 or 59 is of the account for which the port joined last."""
-        account = self.accounts[self.joined[port]]
+        """A text that isn't read is refused at any port, and counts while the port has the turn. Any other answer is of the account that the port waits
+        for."""
+        account = self.waited_for(port)
+        if answer in OF_THE_TEXT and (account is None or account.line[0] != port):
+            return
         others = self.remembered(each for each in self.accounts.values() if each is not account)
         self.seen.update(account.shown(answer, given, algorithm, others))
         if answer != "ok":

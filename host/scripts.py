@@ -5,7 +5,10 @@ the model as it is made, so that the next one can suit the table: the right
 reply of a port that has a turn, a full table, four ports in line. The days come
 in three manners: all ports crowd at one account, they spread over four, or mix.
 On each day two technicians renew accounts round rings of seeds, of a size that
-differs from day to day. Half of the replies, and of the technicians' renewals, are a service handheld's.
+differs from day to day. Half of the replies are a service handheld's, and of
+the technicians' renewals a third, or half where some other text stands for the
+present password. A radio module offers passwords that no text was read to
+(R-7), alone or with new values.
 """
 import collections
 import itertools
@@ -14,6 +17,7 @@ import random
 import handheld
 import harness
 import model
+import offers
 from harness import call
 from sections import challenges, passwords, replies
 from technician import Technician
@@ -21,12 +25,17 @@ from technician import Technician
 PORTS = (0, 1, 2, 3)
 PHRASES = [b"A_Valid_Pass_Phrase", b"This is a test.", b"\0" * 10, bytes(range(128, 191))]
 
+# what is 23 or 24 for a new seed, or both
+NO_SEEDS = [b"", b"LengthOfSeventeen", b"_", b"A Seed", b"Length_of_seventeen"]
+
 # the numbers of document 01, each of which some call can give
 NUMBERS = [10, 11, 12, 13, *range(20, 26), *range(30, 36), 40, *range(50, 64), 70]
 # the calls that are told an algorithm, by number or in a text: each can give 21
-TOLD = ["gen", "chal", "wchal", "wext", "card", "enrol", "reply", "renew"]
+TOLD = ["gen", "chal", "wchal", "wext", "card", "enrol", "reply", "renew", "orenew"]
 # and those that read a reply
-READERS = ["read", "reply", "renew"]
+READING = ["read", "readplain", "reply", "renew"]
+# those that come down to an offer at a port
+OFFERING = ["reply", "renew", "offer", "orenew"]
 # how the ports join: days with seeds one after the other take these in turn
 CROWD, SPREAD, MIX = MANNERS = ("crowd", "spread", "mix")
 # how many seeds the technicians' rings have, in turn too: up to 8 the first is remembered still when it comes up again, with 9 it is just forgotten
@@ -45,7 +54,8 @@ class Day:
         self.rng = random.Random(seed)
         self.table = model.Table()
         self.lines, self.answers = [], []
-        self.accepted = collections.Counter()  # logins, renewals and those by a reply, with the account's algorithm before and after
+        self.accepted = collections.Counter()  # the calls of OFFERING, and renewals by a reply, with the account's algorithm before and after
+        self.hidden = collections.Counter()  # what the table would have refused to texts that aren't read
         self.ticked = collections.Counter()  # the most of LONG that a call had, with the lines before it, 2 for more
         self.before = {}  # a password -> the one that it is the hash of
         self.long_left = 2  # very long texts and long waits that the script may still have
@@ -66,9 +76,9 @@ class Day:
         weights = {
             self.enrol: rng.choice([4, 8, 30]), self.remove: rng.choice([1, 1, 6]),
             self.join: rng.choice([20, 30, 40]), self.leave: rng.choice([1, 2, 4]),
-            self.challenge: 4, self.reply: rng.choice([6, 15, 30]), self.renew: rng.choice([3, 8]), self.ringed: rng.choice([30, 50]),
-            self.tick: rng.choice([2, 5, 10]), self.dump: 6, self.new: 0.1,
-            self.digest: 3, self.gen: 3, self.words: 2, self.hex: 2, self.read: 5, self.chal: 10,
+            self.challenge: 4, self.reply: rng.choice([10, 20, 30]), self.renew: rng.choice([5, 10]), self.ringed: rng.choice([30, 50]),
+            self.offer: rng.choice([4, 8, 16]), self.orenew: rng.choice([5, 10]), self.tick: rng.choice([2, 5, 10]), self.dump: 6, self.new: 0.1,
+            self.digest: 3, self.gen: 3, self.words: 2, self.hex: 2, self.read: 12, self.readplain: 3, self.chal: 10,
             self.wchal: 3, self.wext: 4, self.card: 3, self.prog: 3, self.no_call: 2}
         return weights.items()
 
@@ -77,15 +87,17 @@ class Day:
         name, account, lines = line.split(" ")[0], self.account_of(line), len(self.busy())
         before = account and account.algorithm
         self.answers.append(model.answer(self.table, line))
-        if name in ("reply", "renew") and self.answers[-1].startswith("ok"):
-            self.accepted["init" if line.split(" ")[2].startswith(model.INIT.hex()) else name, before, account.algorithm] += 1
+        self.hidden.update(offers.hidden(self.table, line, self.answers[-1]))
+        if name in OFFERING and self.answers[-1].startswith("ok"):
+            by_text = name == "reply" and line.split(" ")[2].startswith(model.INIT.hex())
+            self.accepted["init" if by_text else name, before, account.algorithm] += 1
         if name == "tick" and self.answers[-1] == "ok":
             self.ticked[max([0, *(long for long in LONG if long <= int(line.split(" ")[1]))]), min(lines, 2)] += 1
 
     def account_of(self, line):
-        """The account in whose line the port of a reply or a renewal is."""
+        """The account in whose line the port is that offers."""
         words = line.split(" ")
-        return self.table.waited_for(int(words[1])) if words[0] in ("reply", "renew") and words[1:] and words[1].isdecimal() else None
+        return self.table.waited_for(int(words[1])) if words[0] in OFFERING and words[1:] and words[1].isdecimal() else None
 
     def busy(self):
         """The accounts in whose line somebody is."""
@@ -100,7 +112,7 @@ class Day:
             self.filling = len(self.table.accounts) < 32
             return self.enrol()
         made = self.rng.choices(self.calls, self.weights)[0]
-        if not self.busy() and made in (self.reply, self.renew, self.challenge, self.leave):
+        if not self.busy() and made in (self.reply, self.renew, self.offer, self.orenew, self.challenge, self.leave):
             made = self.rng.choice([self.join] * 5 + [made])
         if len(self.table.accounts) < 4 and made == self.join:
             made = self.rng.choice([self.enrol, made])
@@ -138,7 +150,7 @@ class Day:
         return self.manner == CROWD and self.busy() != []
 
     def count(self):
-        return self.rng.choice([2, 3, 5, *[self.rng.randrange(2, 60)] * 12, 0, 1, 9999, 10000, 65535])
+        return self.rng.choice([2, 2, 3, 5, *[self.rng.randrange(2, 60)] * 12, 0, 1, 9999, 10000, 65535])
 
     def seed(self):
         return self.rng.choice([b"dog2", b"Lift1", b"ke1234", passwords.any_seed(self.rng)])
@@ -185,14 +197,21 @@ class Day:
     def reply_text(self, port):
         """A password as hex or words, or no password."""
         password = self.offered(port)
-        return self.any_reply() if password is None else handheld.spelt(self.rng, self.rng.choice([*model.READERS]), password)
+        return self.any_reply() if password is None else handheld.spelt(self.rng, self.rng.choice([*model.READER_OF]), password)
+
+    def values_at(self, port):
+        """New values for the account that a port waits for; now and then with a seed that it remembers, or with one that is none."""
+        algorithm, count, seed, new = self.new_values()
+        account = self.table.waited_for(port)
+        if account and self.rng.random() < 0.1:
+            seed = replies.some_case(self.rng, self.rng.choice([account.seeds[0], account.seeds[0], self.rng.choice(account.seeds)]))
+        elif self.rng.random() < 0.1:
+            seed = self.rng.choice(NO_SEEDS)
+        return algorithm, count, seed, new
 
     def extended(self, port, kinds=model.TYPES):
         """A handheld's reply of one of these types; where there is no password, and now and then where there is one, damaged."""
-        password, (algorithm, count, seed, new) = self.offered(port), self.new_values()
-        account = self.table.waited_for(port)
-        if account and self.rng.random() < 0.1:
-            seed = replies.some_case(self.rng, self.rng.choice(account.seeds))
+        password, (algorithm, count, seed, new) = self.offered(port), self.values_at(port)
         sent = handheld.sent(self.rng, self.rng.choice(kinds), password or 0, (algorithm, count, seed), int(new, 16))
         return (handheld.damaged if password is None or self.rng.random() < 0.5 else handheld.text_of)(self.rng, sent)
 
@@ -246,14 +265,35 @@ class Day:
         port = self.port()
         if self.rng.random() < 0.5:
             return call("reply", port, self.reply_text(port))
-        return call("reply", port, self.extended(port, [*model.READERS] if self.ringed_at(port) else model.TYPES))
+        return call("reply", port, self.extended(port, [*model.READER_OF] if self.ringed_at(port) else model.TYPES))
 
     def renew(self):
         """Seldom with the right reply at a technician's account; now and then with a handheld's, which isn't plain."""
         port = self.port()
         spared = self.ringed_at(port)
         text = self.extended(port) if self.rng.random() < 0.1 else self.any_reply() if spared else self.reply_text(port)
-        return call("renew", port, *self.new_values(), text)
+        return call("renew", port, *self.values_at(port), text)
+
+    def raw(self, port):
+        """A password in hex that no text was read to: mostly the right one, since each that isn't counts as a wrong reply; or any."""
+        account = self.table.waited_for(port)
+        right = self.before.get(account.password) if account else None
+        return self.password() if right is None or self.rng.random() < 0.3 else f"{right:016x}"
+
+    def offer(self):
+        """By a radio module. Now and then it offers the same again, whatever was answered."""
+        port = self.port()
+        return self.repeated(call("offer", port, self.raw(port)))
+
+    def orenew(self):
+        """Seldom with the right password at a technician's account."""
+        port = self.port()
+        return self.repeated(call("orenew", port, *self.values_at(port), self.password() if self.ringed_at(port) else self.raw(port)))
+
+    def repeated(self, line):
+        if self.rng.random() < 0.2:
+            self.next = lambda: line
+        return line
 
     def ringed_at(self, port):
         """Whether a port waits for an account that others than its technician leave alone now."""
@@ -290,7 +330,10 @@ class Day:
         return call("hex", self.password(), self.room(16))
 
     def read(self):
-        return call("read", self.extended(self.any_port()) if self.rng.random() < 0.2 else self.any_reply())
+        return call("read", self.extended(self.any_port()) if self.rng.random() < 0.7 else self.any_reply())
+
+    def readplain(self):
+        return call("readplain", self.extended(self.any_port()) if self.rng.random() < 0.2 else self.any_reply())
 
     def chal(self):
         return call("chal", self.rng.choice([challenges.any_challenge, challenges.marked_challenge])(self.rng))
@@ -302,7 +345,7 @@ class Day:
         """A writer of either form; now and then with the other's words, or with a name that is no type's."""
         kind, (algorithm, count, seed, new) = self.rng.choice(model.TYPES), self.new_values()
         name = self.rng.choice([*[kind] * 12, *model.TYPES, b"HEX", b"words", b"init", b"-"]).decode()
-        values, password = (algorithm, count, self.rng.choice([seed, passwords.any_seed(self.rng)])), self.password()
+        values, password = (algorithm, count, self.rng.choice([seed, seed, passwords.any_seed(self.rng), self.rng.choice(NO_SEEDS)])), self.password()
         length = len(model.extended_text(kind, int(password, 16), values, int(new, 16))) if algorithm in model.NAMES else 60
         return call("wext", name, password, *([*values, new] if model.is_init(kind) else []), self.room(length))
 
@@ -328,7 +371,8 @@ class Day:
 
     def no_call(self):
         """An empty line, a comment, or a good line with one thing wrong."""
-        line = self.rng.choice([self.join, self.gen, self.hex, self.tick, self.enrol, self.read, self.wchal, self.wext, self.renew])()
+        line = self.rng.choice([self.join, self.gen, self.hex, self.tick, self.enrol, self.read, self.readplain, self.wchal, self.wext, self.renew,
+                                self.offer, self.orenew])()
         words = line.split(" ")
         at = self.rng.randrange(len(words))
         changed = self.rng.choice(["", words[at] + " ", words[at] + "\r", words[at].upper(), "-", "x",

@@ -2,8 +2,8 @@
 
 With a ring of n seeds the first comes up again at the nth renewal. Of eight or fewer it is still remembered then (63), and he begins a new ring; of more it
 was forgotten, and he goes round. In between he asks for a remembered seed, in either case and under either algorithm; has a wrong reply, or something else
-wrong, with the seed that comes next, and takes that seed afterwards all the same; replies; and removes the account and enrols it anew. He renews by Renew
-or by a reply of an `init` type.
+wrong, with the seed that comes next, and takes that seed afterwards all the same; replies; and removes the account and enrols it anew. He renews by a
+reply of an `init` type, or with new values of his own beside a plain text or a password.
 """
 import collections
 
@@ -75,9 +75,13 @@ class Technician:
         return algorithm, count, replies.some_case(self.rng, seed), self.day.kept(algorithm, seed, count)
 
     def renewal(self, port, values, present, text=None):
-        """By Renew, or by a reply that says the same; `text` is what stands for the present password, if it isn't the one that is given."""
+        """With new values beside a password or a plain text, or by a text that says them; `text` is what stands for the present password, if it isn't the
+        one that is given, and then there is a text."""
         algorithm, count, seed, new = values
-        if self.rng.random() < 0.5:
+        way = self.rng.choice(["renew", "reply"] if text is not None else ["renew", "reply", "orenew"])
+        if way == "orenew":
+            return call("orenew", port, *values, f"{present:016x}")
+        if way == "renew":
             return call("renew", port, *values, model.hex_of(present) if text is None else text)
         sent = handheld.sent(self.rng, self.rng.choice(extensions.RENEWALS), present, (algorithm, count, seed), int(new, 16))
         return call("reply", port, handheld.text_of(self.rng, sent if text is None else sent._replace(present=text)))
@@ -94,11 +98,11 @@ class Technician:
         return line
 
     def back(self, account, present):
-        """The seed at one of the eight places, if there is one; 63 comes before what may be wrong with the text."""
+        """The seed at one of the eight places, if there is one; a text that isn't read comes before 63."""
         place = self.rng.randrange(8)
         if place >= len(account.seeds):
             return self.round(account, present)
-        return self.renewal(account.line[0], self.values(account.seeds[place]), present, self.rng.choice([None, self.day.any_reply()]))
+        return self.renewal(account.line[0], self.values(account.seeds[place]), present, self.rng.choice([None, None, None, self.day.any_reply()]))
 
     def wrong(self, account, _present):
         """The next seed of the ring, with a password at random."""
@@ -119,6 +123,7 @@ class Technician:
         return self.renewal(port, (algorithm, count, seed, password), present, text)
 
     def reply(self, account, present):
-        """A login, plain or of one of the two types."""
-        sent = handheld.sent(self.rng, self.rng.choice([*model.READERS]), present, (model.MD5, 2, b"a"), 0)
-        return call("reply", account.line[0], self.rng.choice([sent.present, handheld.text_of(self.rng, sent)]))
+        """A login, by a plain text, by one of the two types, or by the password alone."""
+        sent = handheld.sent(self.rng, self.rng.choice([*model.READER_OF]), present, (model.MD5, 2, b"a"), 0)
+        return self.rng.choice([call("reply", account.line[0], self.rng.choice([sent.present, handheld.text_of(self.rng, sent)])),
+                                call("offer", account.line[0], f"{present:016x}")])

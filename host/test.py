@@ -13,7 +13,7 @@ sys.dont_write_bytecode = True
 
 import harness  # noqa: E402
 from sections import believed, cards, challenges, commands, compared, docs, extended_replies, house, lines, numbers, paper  # noqa: E402
-from sections import passwords, promises, refused, replay, replies, seeds, selftest, terminal, tools  # noqa: E402
+from sections import passwords, promises, read_first, refused, replay, replies, seeds, selftest, terminal, tools  # noqa: E402
 
 SECTIONS = [
     ("comparison can fail", selftest.comparison_can_fail),
@@ -53,6 +53,8 @@ SECTIONS = [
     ("extended replies", extended_replies.sentences),
     ("extended replies written and taken", extended_replies.written_reads_back),
     ("extended replies at random and damaged", extended_replies.texts_at_random),
+    ("read first, offer afterwards", read_first.sentences),
+    ("days read first, offered afterwards", read_first.days),
     ("program replay at random", replay.at_random),
     ("uses in crates.txt", house.uses),
     ("layers in README.md", house.layers),

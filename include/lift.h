@@ -41,8 +41,12 @@ extern "C" {
 #endif
 
 /* Which state of this header it is: 0 for the base, n after change request
- * R-n. */
-#define LIFT_VERSION 6
+ * R-n. What R-7 asks of a caller: lift_read_reply reads plain and extended
+ * replies now, and answers a lift_reply. Who read plain texts with it up to
+ * LIFT_VERSION 6 calls lift_read_plain, which is that function under another
+ * name. All that includes this header is compiled again: an object of an
+ * earlier version would link, and take the larger answer for its own. */
+#define LIFT_VERSION 7
 
 /* The algorithms by number. Any other number is refused as unknown (21); it is
  * compared whole, so 257 isn't 1. In a text an algorithm is its name, `md5` or
@@ -64,8 +68,8 @@ enum lift_type {
 
 /* The refusals, by the numbers of document 01, the rules of the build;
  * docs/GUIDE.md has for each what is wrong and what to do. The functions below
- * give 10 to 34, 40, 51 and 70. 35 and the others of 50 to 63 are the login
- * table's own, for a panel that shows what a controller answered. */
+ * give 10 to 40, 51 and 70. The others of 50 to 63 are the login table's own,
+ * for a panel that shows what a controller answered. */
 enum lift_refusal {
     LIFT_PHRASE_SHORT = 10,
     LIFT_PHRASE_LONG = 11,
@@ -112,6 +116,25 @@ typedef struct {
 
 /* The mark of word 1 to 6. */
 #define LIFT_MARK(word) ((uint32_t)1 << ((word) - 1))
+
+/* What the text of a reply is read to (R-7), or a refusal. `init` is 0 for a
+ * login: `password` is all that it has, and every other field is 0. `init` is 1
+ * for a renewal, a text of an `init` type: `password` is the present one, and
+ * beside it are the new password and the new values as the text has them, which
+ * are not checked here. `algorithm` is 0 where the name is neither `md5` nor
+ * `sha1`. `count` is 0 where what stands there is no one to four digits without
+ * a leading zero; any other count is the number it is, 0 and 1 too. The seed is
+ * the seed_len bytes at text + seed_at, in the caller's own text and as they
+ * stand there: all that follows the count, up to the last byte that isn't white
+ * space, of any length, any bytes but a colon. Where there is none, seed_at and
+ * seed_len are 0. The controller that it is offered to refuses values that it
+ * doesn't take, by 51, 21, 23, 24 and 63 in that order.
+ * `marks` is 1 to 63 with refusal 31, as in lift_reading, otherwise 0. */
+typedef struct {
+    uint64_t password, new_password;
+    size_t seed_at, seed_len;
+    uint32_t init, algorithm, count, refusal, marks;
+} lift_reply;
 
 /* How many bytes a writer put at the front of the buffer, or a refusal. */
 typedef struct {
@@ -160,13 +183,34 @@ lift_reading lift_password(uint32_t algorithm,
 
 /* Reads a plain reply: six words or sixteen hex digits, in either case, between
  * spaces, tabs, carriage returns and newlines. Six tokens of one to four
- * letters are words, even where they could be hex. An extended reply is read by
- * the login table alone: here a colon is 33.
+ * letters are words, even where they could be hex. An extended reply is none:
+ * here a colon is 33. Up to R-6 this was lift_read_reply.
  *   30  text_len is over 128
  *   31  a word is not in the dictionary; `marks` has a mark for each such
  *   32  the words are known, but their check sum is wrong
  *   33  neither six words nor sixteen digits */
-lift_reading lift_read_reply(const uint8_t *text, size_t text_len);
+lift_reading lift_read_plain(const uint8_t *text, size_t text_len);
+
+/* Reads a reply, plain or extended, and looks at no table (R-7): what it gives
+ * is for a controller to take or refuse. A text with a colon is extended (RFC
+ * 2243): a type's name in lower case, a colon and a password; for the two
+ * `init` types then a colon, algorithm, count and seed between white space, a
+ * colon and the new password. The type says how its passwords are spelt, in
+ * digits or in words, in either case and with white space as in a plain reply;
+ * no other spelling is tried. Every other text is plain, and read as by
+ * lift_read_plain.
+ *   30  text_len is over 256, or over 128 and there is no colon
+ *   34  what stands before the first colon is none of the four types
+ *   35  not one colon for `hex` and `word`, three for the `init` types
+ * then for the new password, where there is one, and after it for the other
+ *   31  a word is not in the dictionary; `marks` has a mark for each such, and
+ *       doesn't say of which of the two passwords it speaks
+ *   32  the words are known, but their check sum is wrong
+ *   33  neither six words nor sixteen digits; in an extended reply, not that
+ *       of the two which its type says
+ * The seed is a part of the caller's text, so text[0 .. text_len] has to stay
+ * as it is for as long as the host uses seed_at and seed_len. */
+lift_reply lift_read_reply(const uint8_t *text, size_t text_len);
 
 /* Writes a password as 16 lower-case hex digits to buf[0 .. 16].
  *   40  buf_len is under 16 */

@@ -1,6 +1,6 @@
 /* A call of each function of lift.h, as a panel would make it: a challenge is
- * read, the password for it made and written, also as a handheld sends it, and a
- * typed line read back. */
+ * read, the password for it made and written, also as a handheld sends it, and
+ * what was typed or sent is read back. */
 #include <stdio.h>
 #include <string.h>
 
@@ -9,6 +9,7 @@
 #define BYTES(string) (const uint8_t *)(string), strlen(string)
 
 static const char phrase[] = "A_Valid_Pass_Phrase", challenge[] = "otp-md5 99 AValidSeed ext\n";
+static const char renewal[] = "init-hex:85c43ee03857765b:sha1 500 lift3:e997c756ad2ffaad";
 static const char misread[] = "FOWL KIO MASH DEAD DUAL OAP"; /* KID and OAF, off a smudged card */
 
 static void print_text(const char *what, const uint8_t *text, lift_written result)
@@ -54,14 +55,22 @@ int main(void)
     print_text("renewal", buf, lift_write_extended(LIFT_INIT_HEX, made.password, LIFT_SHA1, 500, BYTES("lift3"),
                                                    next.password, buf, sizeof buf));
 
-    lift_reading typed = lift_read_reply(BYTES("fowl kid mash dead dual oaf"));
+    lift_reading typed = lift_read_plain(BYTES("fowl kid mash dead dual oaf"));
     printf("typed the same %d\n", typed.refusal == 0 && typed.password == made.password);
-    typed = lift_read_reply(BYTES("FOWL KID MASH DEAD DUAL OAK"));
+    typed = lift_read_plain(BYTES("FOWL KID MASH DEAD DUAL OAK"));
     printf("mistyped refused %u\n", (unsigned)typed.refusal);
-    typed = lift_read_reply(BYTES(misread));
+    typed = lift_read_plain(BYTES(misread));
     printf("misread refused %u\n", (unsigned)typed.refusal);
     if (typed.refusal == LIFT_WORD_UNKNOWN)
         print_marked(misread, typed.marks);
+
+    lift_reply sent = lift_read_reply(BYTES(renewal));
+    if (sent.refusal != 0)
+        printf("sent refused %u\n", (unsigned)sent.refusal);
+    else if (sent.init)
+        printf("renews to algorithm %u, count %u, seed %.*s\n", (unsigned)sent.algorithm, (unsigned)sent.count,
+               (int)sent.seed_len, renewal + sent.seed_at);
+    printf("both passwords %d\n", sent.password == made.password && sent.new_password == next.password);
 
     lift_bytes_of(made.password, key);
     printf("the eight bytes and back %d\n", lift_password_of(key) == made.password);

@@ -1,4 +1,5 @@
-"""R-6's sentences, each as a scene on the model and on the program `replay`, with answers by hand from document 02; and the writer of extended replies.
+"""R-6's sentences, each as a scene on the model and on the program `replay`, with answers by hand from document 02, in the order that R-7 gave them; and
+the writer of extended replies.
 
 The accounts, and the lines of their cards, are those of lines.py. A renewal that is accepted gives account 7 the password for count 100 of the same
 pass-phrase and `lift2`, as hex and as words. Two accounts wait for a password that is given here, that of RFC 2243's example and one of hex letters alone:
@@ -11,7 +12,7 @@ import harness
 import model
 from harness import call
 from model import MD5, SHA1
-from sections import paper
+from sections import paper, replies
 from sections.lines import EIGHT, SEVEN, START, STORED_7, STORED_8, WORDS_7, WORDS_8, asked, eight, good, seven, shown
 from sections.passwords import GOOD, any_algorithm, any_seed
 from sections.replay import PROGRAM
@@ -82,12 +83,13 @@ SCENES = {
     "256 bytes are read, 257 are 30; 128 is the limit of plain texts alone": [
         *good("join 0 7", "join 1 8"), *refused(30, filled(b"hex", HEX_7, 257), b" " * 129), replied(filled(b"hex", HEX_7, 256), "ok 99"),
         replied(filled(b"word", WORDS_8, 129), "ok 98", 1)],
-    "51, 21, 23, 24, 63 for the parameters, in that order; then the passwords": [
-        *good("join 0 7"), *refused(51, init(b"MD5 x _", new=b"?", present=b"?"), init(b"MD5 1 AValidSeed")),
-        *refused(21, init(b"MD5 9 LengthOfSeventeen", new=b"?"), init(b"otp-md5 9 _"), init(b"md5, 9 AValidSeed")),
-        *refused(23, init(b"md5 9 LengthOfSeventee_", new=b"?"), init(b"md5 9"), init(b"md5 9  \t")),
-        *refused(24, init(b"md5 9 A Seed", new=b"?"), init(b"md5 9 _"), init(b"md5 9 lift2 x")),
-        *refused(63, init(b"md5 9 AVALIDSEED", new=b"?"), init(b"sha1 9 avalidseed", present=b"?")),
+    "the passwords first; then 51, 21, 23, 24, 63 for the parameters, in that order": [
+        *good("join 0 7"), *refused(33, init(b"MD5 x _", new=b"?", present=b"?"), init(b"MD5 x _", present=b"?"), init(b"md5 9 AVALIDSEED", new=b"?")),
+        *refused(51, init(b"MD5 x _"), init(b"MD5 1 AValidSeed")),
+        *refused(21, init(b"MD5 9 LengthOfSeventeen"), init(b"otp-md5 9 _"), init(b"md5, 9 AValidSeed")),
+        *refused(23, init(b"md5 9 LengthOfSeventee_"), init(b"md5 9"), init(b"md5 9  \t")),
+        *refused(24, init(b"md5 9 A Seed"), init(b"md5 9 _"), init(b"md5 9 lift2 x")),
+        *refused(63, init(b"md5 9 AVALIDSEED"), init(b"sha1 9 avalidseed", present=b"0" * 16)),
         *refused(33, init(b"md5 9 lift2", new=b"?"), init(b"md5 9 lift2", present=b"?"), init(b"md5 9 lift2", new=b"")), BOTH],
     "a count is one to four digits without a leading zero, of 2 to 9,999": [
         *good("join 0 7"), *refused(51, *(init(b"md5 %s lift2" % count) for count in (b"0499", b"x", b"0", b"1", b"10000", b"00", b"+9", b"9x", b"65538")),
@@ -106,23 +108,25 @@ SCENES = {
         (call("enrol", 9, MD5, 9, b"lift1", LETTERS_STORED), "ok"), *good("join 0 9"), replied(b"word:ABE ACE ADA ADD BAD A", "no 61"),
         *good("join 0 9"), replied(b"hex:ABE ACE ADA ADD BAD A", "ok 8"), *good("join 0 9"), replied(b"word:ABE ACE ADA ADD BAD ADD", "no 32")],
     "an empty part is there, and its own refusal is given": [
-        *good("join 0 7"), *refused(33, b"hex:", b"word:", b"word: \t"), *refused(51, b"init-hex:::", b"init-word:a::b"),
-        *refused(33, b"init-hex::md5 9 lift2:"), BOTH],
+        *good("join 0 7"), *refused(33, b"hex:", b"word:", b"word: \t"), *refused(51, init(b""), init(b" \t")),
+        *refused(33, b"init-hex:::", b"init-word:a::b", b"init-hex::md5 9 lift2:"), BOTH],
     "parts in another order": [
-        *good("join 0 7"), *refused(51, b":".join([b"init-hex", b"md5 100 lift2", HEX_7, NEW_HEX]), b":".join([b"init-hex", HEX_7, NEW_HEX, b"md5 100 lift2"])),
+        *good("join 0 7"), *refused(33, b":".join([b"init-hex", b"md5 100 lift2", HEX_7, NEW_HEX]), b":".join([b"init-hex", HEX_7, NEW_HEX, b"md5 100 lift2"])),
         *refused(34, HEX_7 + b":hex"), replied(init(b"md5 100 lift2", new=HEX_7, present=NEW_HEX), "no 61")],
     "a wrong one counts as a wrong reply does, and a renewal changes nothing then": [
         *good("join 0 7"), replied(b"hex:" + b"0" * 16, "no 61"), *good("join 0 7"), replied(init(b"sha1 9 lift2", present=b"0" * 16), "no 61"),
         *good("join 0 7"), replied(b"word:" + WORDS_8, "no 62"), shown(seven("-", 0), eight("-", 0), ports="0:900,0:0,0:0,0:0"), *good("join 1 7"),
         asked(1, b"otp-md5 99 avalidseed ext\n"), replied(init(b"md5 100 lift2"), "ok 100", 1), renewed(MD5, 100, ports="0:900,0:0,0:0,0:0")],
-    "the table's own refusals come before the text's": [
-        *(replied(text, "no 55", 4) for text in (b"x:", b":" * 257)), replied(b"x:", "no 59"), *good("join 0 7", "join 1 7"), replied(b"x:", "no 60", 1),
-        *good(call("enrol", 9, MD5, 2, b"AValidSeed", SEVEN), "join 2 9", "join 3 9"), replied(b"hex:" + HEX_7, "ok 1", 2), replied(b"x:", "no 58", 3),
-        replied(b"hex:" * 65, "no 58", 3), replied(init(b"x", present=b"?"), "no 58", 3)],
-    "Renew's text, and what `read` reads, stays plain: a colon is 33, and 30 over 128 bytes": [
+    "the text's refusals come before the table's own": [
+        *(replied(text, answer, 4) for text, answer in ((b"x:", "no 34"), (b":" * 257, "no 30"), (b"hex:", "no 33"), (b"hex:" + HEX_7, "no 55"))),
+        replied(b"x:", "no 34"), replied(b"hex:" + HEX_7, "no 59"), *good("join 0 7", "join 1 7"), replied(b"hex::", "no 35", 1),
+        replied(b"hex:" + HEX_7, "no 60", 1), *good(call("enrol", 9, MD5, 2, b"AValidSeed", SEVEN), "join 2 9", "join 3 9"),
+        replied(b"hex:" + HEX_7, "ok 1", 2), replied(b"x:", "no 34", 3), replied(b"hex:" * 65, "no 30", 3), replied(init(b"x", present=b"?"), "no 33", 3),
+        replied(init(b"x"), "no 58", 3), replied(b"hex:" + HEX_7, "no 58", 3)],
+    "Renew's text, and what `readplain` reads, stays plain: a colon is 33, and 30 over 128 bytes": [
         *good("join 0 7"), *((call("renew", 0, MD5, 100, b"lift2", NEW, text), answer) for text, answer in
                              ((b"hex:" + HEX_7, "no 33"), (filled(b"hex", HEX_7, 128), "no 33"), (filled(b"hex", HEX_7, 129), "no 30"), (b":", "no 33"))),
-        *((call("read", text), answer) for text, answer in ((b"hex:" + HEX_7, "no 33"), (filled(b"hex", HEX_7, 129), "no 30"))), BOTH],
+        *((call("readplain", text), answer) for text, answer in ((b"hex:" + HEX_7, "no 33"), (filled(b"hex", HEX_7, 129), "no 30"))), BOTH],
     "an accepted renewal's seed is remembered, a refused one's isn't": [
         *good("join 0 7"), *refused(34, b"init:" + init(b"md5 100 lift2")), *refused(35, init(b"md5 100 lift2") + b":"),
         replied(init(b"md5 100 lift2"), "ok 100"), *good("join 0 7"), *refused(63, init(b"md5 9 LIFT2"), init(b"sha1 9 AValidSeed")),
@@ -149,13 +153,17 @@ SCENES = {
 }
 
 
-def sentences(driver):
+def played(driver, scenes):
     """Each scene begins with the two accounts; what of it is in C goes through the driver too."""
-    for scene in SCENES.values():
+    for scene in scenes.values():
         lines, answers = zip(*START, *scene)
         paper.hold_both_to(driver, lines, answers)
         harness.hold_to(lines, harness.asked(PROGRAM, lines), answers)
-    return f"{len(SCENES)} scenes, {sum(map(len, SCENES.values()))} calls on the model and on the program"
+    return f"{len(scenes)} scenes, {sum(map(len, scenes.values()))} calls on the model and on the program"
+
+
+def sentences(driver):
+    return played(driver, SCENES)
 
 
 # the writer, and what it writes read back
@@ -189,7 +197,8 @@ def writer_at_every_room(driver):
 
 
 def written_reads_back(driver):
-    """What the writer writes is the reply that it was given: accepted where that password is waited for, with the values and the password given."""
+    """What the writer writes is the reply that it was given: read as that, and accepted where that password is waited for, with the values and the new
+    password given."""
     rng = random.Random(6)
     given = [(kind, rng.getrandbits(64), good_values(rng), rng.getrandbits(64)) for kind in model.TYPES for _ in range(250)]
     texts = harness.asked(driver, [call("wext", kind.decode(), f"{present:016x}", *([*values, f"{new:016x}"] if model.is_init(kind) else []), 96)
@@ -197,34 +206,42 @@ def written_reads_back(driver):
     pairs = [pair for each, answer in zip(given, texts) for pair in accepted(*each, answer.split(" ")[2])]
     lines, answers = zip(*pairs)
     harness.hold_to(lines, harness.asked(PROGRAM, lines), answers)
-    return f"{len(given)} replies of the four types, written through the driver and taken by the program: the password, the new values and the new password"
+    in_c, due = zip(*(pair for pair in pairs if pair[0].startswith("read ")))
+    harness.hold_to(in_c, harness.asked(driver, in_c), due)
+    return f"{len(given)} replies of the four types, written through the driver, read by driver and program, and taken by the program as they were given"
 
 
 def accepted(kind, present, values, new, text):
-    """A table whose account waits for a password, and the reply: the calls and their answers."""
+    """A table whose account waits for a password, and the reply, read alone and taken: the calls and their answers."""
     stored, first = f"{model.hashed_once(MD5, present):016x}", b"neverseen".hex()
     algorithm, count, seed = values
     if model.is_init(kind):
-        after = f"{algorithm}:{count}:{new:016x}:{seed.lower().hex()}/{first}"
+        said, after = f"init {algorithm} {count} {seed.hex()} {new:016x} {present:016x}", f"{algorithm}:{count}:{new:016x}:{seed.lower().hex()}/{first}"
     else:
-        count, after = 8, f"{MD5}:8:{present:016x}:{first}"
-    return [("new", "ok"), (f"enrol 1 {MD5} 9 {first} {stored}", "ok"), ("join 0 1", "ok"), (f"reply 0 {text}", f"ok {count}"),
-            ("dump", f"ok A=1:{after}:-:0 P=0:0,0:0,0:0,0:0")]
+        count, said, after = 8, f"pw {present:016x}", f"{MD5}:8:{present:016x}:{first}"
+    return [("new", "ok"), (f"enrol 1 {MD5} 9 {first} {stored}", "ok"), ("join 0 1", "ok"), (f"read {text}", f"ok {said}"),
+            (f"reply 0 {text}", f"ok {count}"), ("dump", f"ok A=1:{after}:-:0 P=0:0,0:0,0:0,0:0")]
 
 
 # texts at random
 
 
-def texts_at_random(_driver):
-    """Replies of every type, good and damaged in each way, to a port that has the turn of an account which waits for the password that most of them have."""
+def some_texts(rng, damage):
+    """Damaged in that way, most with the password that account 1 waits for."""
+    for _ in range(150):
+        kind, present = rng.choice(model.TYPES), rng.choice([int(STORED_7, 16), rng.getrandbits(64)])
+        values = any_algorithm(rng), rng.choice([any_count(rng), any_count(rng), 1, 10000]), rng.choice([any_seed(rng), any_seed(rng), b"DOG2"])
+        yield damage(rng, handheld.sent(rng, kind, present, values, rng.getrandbits(64)))
+
+
+def texts_at_random(driver):
+    """Replies of every type, good and damaged in each way, read alone, and to a port that has the turn."""
     rng, calls = random.Random(35), 0
     head = ["new", call("enrol", 1, MD5, 9999, b"dog2", SEVEN), "join 0 1"]
     for damage in [handheld.text_of, *handheld.DAMAGES]:
-        lines = []
-        for _ in range(150):
-            kind, present = rng.choice(model.TYPES), rng.choice([int(STORED_7, 16), rng.getrandbits(64)])
-            values = any_algorithm(rng), rng.choice([any_count(rng), any_count(rng), 1, 10000]), rng.choice([any_seed(rng), any_seed(rng), b"DOG2"])
-            lines += [*head, call("reply", 0, damage(rng, handheld.sent(rng, kind, present, values, rng.getrandbits(64)))), "dump"]
-        harness.same_as_model(PROGRAM, lines)
-        calls += 150
-    return f"{calls} replies of the four types, good or damaged: answer and table are the model's"
+        texts = list(some_texts(rng, damage))
+        alone = [call(name, text) for text in texts for name in replies.READ_ALONE]
+        harness.same_as_model(driver, alone)
+        harness.same_as_model(PROGRAM, [*alone, *(line for text in texts for line in [*head, call("reply", 0, text), "dump"])])
+        calls += len(texts)
+    return f"{calls} replies of the four types, good or damaged: what is read by driver and program, the answer and the table are the model's"

@@ -87,7 +87,7 @@ SCENES = {
         *good("tick 900", "join 1 8"), shown(seven("-", 0), eight("1", 60, 98, STORED_8))],
     "who finds the account used up at its turn stays in line, and 60 comes before 58": [
         *good(call("enrol", 9, MD5, 2, b"AValidSeed", SEVEN), "join 0 9", "join 1 9", "join 2 9"), (call("reply", 0, WORDS_7), "ok 1"),
-        ("join 0 9", "no 58"), ("challenge 1 64", "no 58 clean"), (call("reply", 1, NO_PASSWORD), "no 58"), (call("reply", 1, WRONG), "no 58"),
+        ("join 0 9", "no 58"), ("challenge 1 64", "no 58 clean"), (call("reply", 1, NO_PASSWORD), "no 33"), (call("reply", 1, WRONG), "no 58"),
         (call("renew", 1, MD5, 9, b"lift1", "0" * 16, WORDS_7), "no 58"), ("challenge 2 64", "no 60 clean"), (call("reply", 2, WRONG), "no 60"),
         (call("renew", 2, MD5, 9, b"lift1", "0" * 16, WORDS_7), "no 60"), shown(seven("-", 0), eight("-", 0), nine("1.2", 60)),
         *good("tick 10", "leave 1"), shown(seven("-", 0), eight("-", 0), nine("2", 60)), ("challenge 2 64", "no 58 clean"),

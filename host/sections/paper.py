@@ -3,7 +3,7 @@ import harness
 import model
 from harness import call
 from model import MD5
-from sections import recorded, recorded_ahead
+from sections import recorded
 
 PHRASE = b"A_Valid_Pass_Phrase"
 CARD = b"99 85c43ee03857765b FOWL KID MASH DEAD DUAL OAF\n"
@@ -37,11 +37,11 @@ EXAMPLES = [
     words_example(2**64 - 1, b"YOKE YOKE YOKE YOKE YOKE YEAR"),
     words_example(0x85C43EE03857765B, b"FOWL KID MASH DEAD DUAL OAF"),
     # replies
-    (call("read", b"FOWL KID MASH DEAD DUAL OAF"), "ok 85c43ee03857765b"),
+    (call("read", b"FOWL KID MASH DEAD DUAL OAF"), "ok pw 85c43ee03857765b"),
     (call("read", b"FOWL KID MASH DEAD DUAL NUT"), "no 32"),
     (call("read", b"FOWL KID MASH DEAD DUAL O"), "no 32"),
     (call("read", b"FOWL KID MASH DEAD DUAL OAK"), "no 32"),
-    (call("read", b"85C4 3EE0 3857 765B"), "ok 85c43ee03857765b"),
+    (call("read", b"85C4 3EE0 3857 765B"), "ok pw 85c43ee03857765b"),
     (call("read", b"85C4 3EE0 3857 765"), "no 33"),
     # challenges
     (call("chal", b"otp-md5 487 dog2\n"), f"ok {MD5} 487 12 4 17 0"),
@@ -86,7 +86,5 @@ def examples(driver):
 
 
 def scripts(driver):
-    """Four recorded scripts with answers from elsewhere, which read the documents alike: two of the base; two of the state after R-7, with the extended
-    texts that are read alone there apart."""
-    return "; ".join(f"{recorded.kinds(script)}: {hold_both_to(driver, script.lines, script.answers)}"
-                     for script in [*recorded.scripts(), *recorded_ahead.scripts()])
+    """Four recorded scripts with answers from elsewhere, which read the documents alike: two of the base, two of the state after R-7."""
+    return "; ".join(f"{recorded.kinds(script)}: {hold_both_to(driver, script.lines, script.answers)}" for script in recorded.scripts())

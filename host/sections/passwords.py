@@ -109,6 +109,8 @@ NO_CALLS = ["nonsense", "md5", "md5 6", "md5 616", "md5 6G", "md5 AB", "md5 61 6
             "wext", "wext hex", "wext hex 00 96", "wext HEX 0000000000000000 96", "wext init-hex 0000000000000000 96", "wext hex 0000000000000000 96 0",
             "wext init-hex 0000000000000000 1 9 6464 0000000000000000", "wext word 0000000000000000 1 9 6464 0000000000000000 96",
             "wext init-hex 0000000000000000 256 9 6464 0000000000000000 96", "wext init-hex 0000000000000000 1 9 646 0000000000000000 96",
+            "read", "read 2", "read 20 20", "read AB", "READ 20", "readplain", "readplain 2", "readplain 20 20", "readplain AB", "readplai 20", "readplains 20",
+            "read -", "readplain -", "offer 1 0000000000000000 0",
             "md5 61\0", "md5 \xe9", "md5 61"]
 
 

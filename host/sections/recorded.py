@@ -1,14 +1,13 @@
-"""The two recorded scripts of the base, host/replay/base_a and base_b, in today's line format.
+"""The recorded scripts under host/replay: two of the base, base_a and base_b, in today's line format, and two of the state after R-7, r7_a and r7_b.
 
-They stay as they were recorded, with their answers, from a model that isn't ours. R-1 put the algorithm into some lines
-and answers, and made `sha1` a known name: what is recorded is put into that form here. R-2 made 31's place into marks: the
+They stay as they were recorded, with their answers, from a model that isn't ours. Those of R-7 are in today's words; what follows is of the base. R-1 put
+the algorithm into some lines and answers, and made `sha1` a known name: what is recorded is put into that form here. R-2 made 31's place into marks: the
 recorded place has to be that of the first, and the others are our model's.
 
 At the base one line served the whole controller. What was recorded is right under R-4 as long as all that wait do so for one account, and no longer:
 from the join that puts a second account in line until a dump shows at most one there, the recorded answers don't apply, and the calls on the table are
 left out, 60 of 1,283 in the one script and 600 of 1,338 in the other. At that dump the recorded table is made anew, by calls of our own with answers of
-our own, and held to the dump: 76 calls, 5 times, in the one script and 1,888, 42 times, in the other. recorded_ahead.py has scripts with several lines
-at once.
+our own, and held to the dump: 76 calls, 5 times, in the one script and 1,888, 42 times, in the other. The scripts of R-7 have several lines at once.
 
 Where a challenge named sha1, which the base refused, another unknown name of the same length stands for it: 15 calls of the one script
 and 14 of the other.
@@ -18,7 +17,11 @@ seed stands for it, so that the recorded 61 holds. Of what a dump shows now the 
 16 in the other, are the ones that the recorded enrolments and renewals took, since the account was enrolled or made anew.
 
 R-6 has the table's Challenge write ` ext` before its newline: it is lent four bytes more, and the recorded text has the mark put in. No challenge that was
-recorded as read has the mark, and no reply has a colon.
+recorded as read has the mark, and no text that is read or replied has a colon.
+
+R-7 has a text read before the table is looked at. Where the table's refusal was recorded to a text that isn't read, one that is read stands for it, so that
+the recorded refusal holds: 20 calls of the one script and 3 of the other, of those that aren't left out. What `read` answers is said to be a password:
+`ok P` becomes `ok pw P`.
 """
 import collections
 import re
@@ -32,12 +35,14 @@ ALGORITHM_AT = {"gen": 1, "wchal": 1, "enrol": 2, "renew": 2}
 SHA1, UNKNOWN = b"otp-sha1".hex(), b"otp-sha0".hex()
 # what R-6's Challenge writes before its newline, and the most that a writer is lent
 MARK, MOST_ROOM = b" ext", 8192
-# a seed that no recorded call has
-NEW_SEED = b"neverseen".hex()
-# of each script: how many calls name it, how many are left out, how many of our own make a table anew, and how many times; how many calls have a new seed,
-# and how many seeds in dumps weren't recorded
-Counted = collections.namedtuple("Counted", "renamed left_out made times reseeded older")
-COUNTED = {"base_a": Counted(15, 60, 76, 5, 1, 86), "base_b": Counted(14, 600, 1888, 42, 0, 16)}
+# a seed, and a text that is read, that no recorded call has
+NEW_SEED, NEW_TEXT = b"neverseen".hex(), b"0123456789abcdef".hex()
+# of each script of the base: how many calls name it, how many are left out, how many of our own make a table anew, and how many times; of what isn't left
+# out, how many calls have a new seed, how many seeds in dumps weren't recorded, and how many calls have a new text
+Counted = collections.namedtuple("Counted", "renamed left_out made times reseeded older reworded")
+COUNTED = {"base_a": Counted(15, 60, 76, 5, 1, 86, 20), "base_b": Counted(14, 600, 1888, 42, 0, 16, 3)}
+# those that are in today's words
+TODAY = ("r7_a", "r7_b")
 # a script of today, and of its calls how many make a table anew, and how many times
 Script = collections.namedtuple("Script", "lines answers made times", defaults=(0, 0))
 ON_THE_TABLE = {"new", "enrol", "remove", "join", "leave", "challenge", "reply", "renew", "tick", "dump"}
@@ -106,6 +111,8 @@ def answer_today(line, answer, seeds):
     name, words = line.split(" ")[0], answer.split(" ")
     if words[:2] == ["no", "31"]:
         words[2] = marks_today(line.split(" ")[-1], words[2])
+    if name == "read" and words[0] == "ok":
+        words = ["ok", "pw", words[1]]
     if name == "chal" and words[0] == "ok":
         words = ["ok", "1", *words[1:], "0"]
     if name == "challenge" and words[0] == "ok":
@@ -201,17 +208,33 @@ def reseeded(seeds, waiting, line, answer):
     return " ".join([name, *words])
 
 
+def is_read(text):
+    try:
+        model.read_plain(text)
+    except model.Refused:
+        return False
+    return True
+
+
+def reworded(line, answer):
+    """A refusal of the table's, to a text that isn't read: one for it that is, and for which the table refuses as it did."""
+    name, *words = line.split(" ")
+    if name in ("reply", "renew") and re.match("no (?!3[0-3]|6[12])", answer) and not is_read(model.text_in(words[-1])):
+        words[-1] = NEW_TEXT
+    return " ".join([name, *words])
+
+
 def followed(lines, answers):
     """Each call with its answer, whether the recorded table is there once it is answered, whether it is made anew for it, and what the accounts remember."""
     waiting, seeds, applies = {}, {}, True
     for line, answer in zip(lines, answers, strict=True):
-        reworded = reseeded(seeds, waiting, line, answer)
+        today = reworded(reseeded(seeds, waiting, line, answer), answer)
         seeds, waiting = seeds_after(seeds, waiting, line, answer), waiting_after(waiting, line, answer)
         applies = applies and len(set(waiting.values())) < 2
         anew = not applies and line == "dump" and can_be_made(dump_in(answer))
         if anew:
             applies, seeds = True, {id: [seed] for id, seed, *_ in dump_in(answer).accounts}
-        yield reworded, answer, applies, anew, seeds
+        yield today, answer, applies, anew, seeds
 
 
 def applying(lines, answers):
@@ -221,16 +244,27 @@ def applying(lines, answers):
             yield [*made(dump_in(answer))] if anew else [], (call_today(line), answer_today(line, answer, seeds))
 
 
+def recorded(name):
+    """A script's calls and its answers."""
+    return ((ROOT / "host" / "replay" / f"{name}.{kind}").read_text().splitlines() for kind in ("calls", "answers"))
+
+
+def of_the_base(name, due):
+    """A script of the base, as its calls and answers of today."""
+    lines, answers = recorded(name)
+    ours, kept = zip(*applying(lines, answers))
+    counted = Counted(sum(SHA1 in line for line in lines), len(lines) - len(kept), sum(map(len, ours)), sum(map(bool, ours)),
+                      sum(NEW_SEED in line for line, _ in kept), sum(answer.count("/") for _, answer in kept),
+                      sum(NEW_TEXT in line for line, _ in kept))
+    if counted != due:
+        raise Failed(f"{name}: {counted}, not {due}")
+    return Script(*zip(*(pair for before, each in zip(ours, kept) for pair in [*before, each])), due.made, due.times)
+
+
 def scripts():
-    """Each script as its calls and answers of today."""
-    for name, due in COUNTED.items():
-        lines, answers = ((ROOT / "host" / "replay" / f"{name}.{kind}").read_text().splitlines() for kind in ("calls", "answers"))
-        ours, kept = zip(*applying(lines, answers))
-        counted = Counted(sum(SHA1 in line for line in lines), len(lines) - len(kept), sum(map(len, ours)), sum(map(bool, ours)),
-                          sum(NEW_SEED in line for line, _ in kept), sum(answer.count("/") for _, answer in kept))
-        if counted != due:
-            raise Failed(f"{name}: {counted}, not {due}")
-        yield Script(*zip(*(pair for before, each in zip(ours, kept) for pair in [*before, each])), due.made, due.times)
+    """Each script in today's words."""
+    yield from (of_the_base(*each) for each in COUNTED.items())
+    yield from (Script(*recorded(name)) for name in TODAY)
 
 
 def kinds(script):

@@ -8,11 +8,12 @@ import subprocess
 import extensions
 import harness
 import model
+import offers
 import remembered
 import scripts
 from harness import ROOT, Failed, call
-from sections import recorded as base
-from sections import recorded_ahead, replies
+from sections import recorded as kept_scripts
+from sections import replies
 from sections.passwords import NO_CALLS
 
 PROGRAM = ROOT / "target" / "bin" / "replay"
@@ -22,10 +23,10 @@ MOST = 1 << 20  # bytes of input
 
 def recorded(_driver):
     """The recorded scripts, answered to the byte."""
-    kept = [*base.scripts(), *recorded_ahead.scripts()]
+    kept = list(kept_scripts.scripts())
     for script in kept:
         harness.hold_to(script.lines, harness.asked(PROGRAM, script.lines), script.answers)
-    return "; ".join(map(base.kinds, kept))
+    return "; ".join(map(kept_scripts.kinds, kept))
 
 
 def tally(lines, answers):
@@ -44,16 +45,16 @@ def tally(lines, answers):
 def hold_to_numbers(seen):
     """Fails if some number of document 01 was never given, 21 by some call that is told an algorithm, or 31 with two marks by some reader."""
     wanted = [*map(str, scripts.NUMBERS), *("21 by " + name for name in scripts.TOLD),
-              *("31 with two marks or more by " + name for name in scripts.READERS)]
+              *("31 with two marks or more by " + name for name in scripts.READING)]
     missing = [number for number in wanted if not seen[number]]
     if missing:
         raise Failed(f"never given: {', '.join(missing)}")
 
 
 def hold_to_algorithms(accepted):
-    """Fails if no login was accepted under some algorithm, or no renewal, by Renew or by Reply, from one to another or to the same."""
-    pairs = itertools.product(("renew", "init"), model.NAMES, model.NAMES)
-    wanted = [("reply", each, each) for each in model.NAMES] + list(pairs)
+    """Fails if no login was accepted under some algorithm, read from a text or offered by itself, or no renewal from one to another or to the same."""
+    logins = [(name, each, each) for name in ("reply", "offer") for each in model.NAMES]
+    wanted = [*logins, *itertools.product(("renew", "init", "orenew"), model.NAMES, model.NAMES)]
     missing = [each for each in wanted if not accepted[each]]
     if missing:
         raise Failed(f"never accepted: {missing}")
@@ -103,20 +104,27 @@ def hold_to_ticks(ticked):
     return ", ".join(f"{long} ticks or more in one line: {ticked[long, 1]}, in several: {ticked[long, 2]}" for long in scripts.LONG)
 
 
-def hold_to_remembered(seen):
-    """Fails if some kind of renewal, or of what an account remembers, was never shown."""
-    missing = [kind for kind in remembered.KINDS if not seen[kind]]
+def each_shown(kinds, seen):
+    """Fails if one of these kinds was never shown."""
+    missing = [kind for kind in kinds if not seen[kind]]
     if missing:
         raise Failed(f"never shown: {'; '.join(missing)}")
-    return ", ".join(f"{kind}: {seen[kind]}" for kind in remembered.KINDS)
+    return ", ".join(f"{kind}: {seen[kind]}" for kind in kinds)
+
+
+def hold_to_remembered(seen):
+    """Each kind of renewal, and of what an account remembers."""
+    return each_shown(remembered.KINDS, seen)
 
 
 def hold_to_extended(seen):
-    """Fails if some kind of extended reply, of the challenge's mark or of the writer's calls was never shown."""
-    missing = [kind for kind in extensions.KINDS if not seen[kind]]
-    if missing:
-        raise Failed(f"never shown: {'; '.join(missing)}")
-    return ", ".join(f"{kind}: {seen[kind]}" for kind in extensions.KINDS)
+    """Each kind of extended reply, of the challenge's mark and of the writer's calls."""
+    return each_shown(extensions.KINDS, seen)
+
+
+def hold_to_offers(seen):
+    """Each kind of reading, of offer, and of the order of the two."""
+    return each_shown(offers.KINDS, seen)
 
 
 def ring_in(seen):
@@ -147,14 +155,14 @@ def stored(_driver):
 
 
 def misread(_driver):
-    """Each pattern of misread words as `read`, `reply` and `renew`: 31 keeps the turn, and the table stays as it was."""
+    """Each pattern of misread words, read alone and at a port that has the turn: 31 keeps it, and the table stays as it was."""
     head = [call("enrol", 1, model.MD5, 9, b"dog2", "0" * 16), "join 0 1", "dump"]
     first = model.replay("\n".join(head))
     lines, wanted = [*head], [*first]
     for pattern, text in replies.patterns(random.Random(63), 2):
         if "1" in pattern:
-            lines += [call("read", text), call("reply", 0, text), call("renew", 0, model.SHA1, 9, b"lift1", "0" * 16, text)]
-            wanted += [f"no 31 {pattern}"] * 3
+            lines += [call("read", text), call("readplain", text), call("reply", 0, text), call("renew", 0, model.SHA1, 9, b"lift1", "0" * 16, text)]
+            wanted += [f"no 31 {pattern}"] * 4
     lines, wanted = [*lines, "dump"], [*wanted, first[-1]]
     harness.hold_to(lines, harness.asked(PROGRAM, lines), wanted)
     return f"{len(lines) - len(head) - 1} calls: marked as the words were made, and the table as it was"
@@ -162,7 +170,7 @@ def misread(_driver):
 
 def at_random(driver):
     """Each script on the program; its calls that are in C through the driver too."""
-    seen, accepted, ticked, extended = (collections.Counter() for _ in range(4))
+    seen, accepted, ticked, extended, offered = (collections.Counter() for _ in range(5))
     calls, in_c = 0, 0
     ways = {manner: collections.Counter() for manner in scripts.MANNERS}
     shown = {ring: collections.Counter() for ring in scripts.RINGS}
@@ -178,6 +186,7 @@ def at_random(driver):
         ways[day.manner].update(lines_in(answer) for line, answer in answered if line == "dump")
         shown[day.ring] += remembered.kinds_in(*zip(*answered))
         extended += extensions.kinds_in(*zip(*answered))
+        offered += offers.kinds_in(*zip(*answered)) + day.hidden
         lines, answers = zip(*[pair for pair in answered if pair[0].split(" ")[0] in harness.IN_C])
         harness.hold_to(lines, harness.asked(driver, lines), answers)
         calls, in_c = calls + len(answered), in_c + len(lines)
@@ -187,7 +196,7 @@ def at_random(driver):
     numbers = ", ".join(f"{number}: {seen[str(number)]}" for number in scripts.NUMBERS)
     return (f"{len(SEEDS)} scripts, {calls} calls, {in_c} of them through the driver too: same answers as the model "
             f"({hold_to_lines(sum(ways.values(), collections.Counter()))}; {hold_to_ticks(ticked)}; accepted, by algorithm, {hold_to_algorithms(accepted)}; "
-            f"{hold_to_remembered(sum(shown.values(), collections.Counter()))}; {hold_to_extended(extended)}; "
+            f"{hold_to_remembered(sum(shown.values(), collections.Counter()))}; {hold_to_extended(extended)}; {hold_to_offers(offered)}; "
             f"ok: {seen['ok']}, bad: {seen['bad']}, {numbers})")
 
 
@@ -209,7 +218,8 @@ INPUTS = [
     b"\0", b"\0\n", b"\xff\n", b"dump\ndump", b"tick 60\ndump\n", b"leave 0\nmd5 -\n", b"new\0\n", b"md5 61\0\n",
     b"\n" * MOST, b"#" * MOST, b"x" * MOST, filled(b"new\n"),
     *(filled(name + b" " + b"61" * length + b"\n") for name in model.NAMES.values() for length in (4096, 4097)),
-    b"md5 " + b"61" * ((MOST - 4) // 2), b"read " + b"20" * 500000 + b"\n",
+    b"md5 " + b"61" * ((MOST - 4) // 2), b"read " + b"20" * 500000 + b"\n", b"read " + b"3a" * 500000 + b"\n", b"readplain " + b"20" * 500000 + b"\n",
+    b"orenew 0 1 9 " + b"61" * 500000 + b" " + b"00" * 8 + b" " + b"00" * 8 + b"\n",
     b"reply 0 " + b"20" * 500000 + b"\n", b"reply 0 " + b"3a" * 500000 + b"\n", b"gen 2 " + b"61" * 200000 + b" " + b"61" * 300000 + b" 1\n",
     b"prog " + b"0a" * 257 + b"\n", b"prog " + b"0a" * 500000 + b"\n", b"#\n" * (MOST // 2), b"new\n" * 5000,
 ]
@@ -243,6 +253,15 @@ MORE_NO_CALLS = [
     "remove", "remove 65536", "remove x", "remove 0x1", "join 1", "join 1 1 1", "join 65536 1", "join 1  1",
     "leave", "leave -", "leave 1 ", "challenge 1", "challenge 1 8193", "challenge 65536 1", "challenge 1 1.0",
     "reply 1", "reply 1 0", "reply 1 20 ", "reply 1 zz", "renew 1 1 9 6464 0000000000000000",
+    "read", "read 2", "read 20 20", "reads 20", "readplain", "readplain 2", "readplain 20 20", "readplain 20 ", "readplai 20", "readplainx 20", "READPLAIN 20",
+    "offer", "offer 1", "offer 1 ", "offer 1 -", "offer 1 000000000000000", "offer 1 00000000000000000", "offer 1 000000000000000A",
+    "offer 1 000000000000000g", "offer 65536 0000000000000000", "offer -1 0000000000000000", "offer x 0000000000000000", "offer 1 0000000000000000 0",
+    "offers 1 0000000000000000", "offe 1 0000000000000000", "offer  1 0000000000000000",
+    "orenew", "orenew 1 1 9 6464 0000000000000000", "orenew 1 1 9 6464 0000000000000000 0000000000000000 0", "orenew 1 1 9 6464 0000000000000000 20",
+    "orenew 1 1 9 6464 20 0000000000000000", "orenew 1 256 9 6464 0000000000000000 0000000000000000", "orenew 1 1 65536 6464 0000000000000000 0000000000000000",
+    "orenew 65536 1 9 6464 0000000000000000 0000000000000000", "orenew 1 1 9 646 0000000000000000 0000000000000000",
+    "orenew 1 9 6464 0000000000000000 0000000000000000", "orenew 1 1 9 6464 0000000000000000 -", "orenew 1 1 9 6464 - 0000000000000000",
+    "orenews 1 1 9 6464 0000000000000000 0000000000000000", "orenew 1 1 -1 6464 0000000000000000 0000000000000000",
     "renew 1 1 9 6464 - 20", "renew 1 1 9 6464 0000000000000000 2", "renew 1 256 9 6464 0000000000000000 20",
     "renew 1 9 6464 0000000000000000 20", "tick", "tick 100001", "tick -1", "tick 1e3",
     "tick 99999999999999999999999999", "tick 18446744073709551617", "dump 0", "DUMP", "dumps", "prog", "prog 0",

@@ -7,6 +7,8 @@ import model
 from harness import Failed, call
 from sections import passwords
 
+# the calls that read a plain text alone, and alike
+READ_ALONE = ("read", "readplain")
 BLANKS = b" \t\r\n"
 HEX_WORDS = [word for word in model.WORDS if set(word) <= set("ABCDEF")]
 
@@ -18,7 +20,7 @@ def appendix_c(driver):
                               for row in passwords.rows_of(algorithm)):
         password = digits.lower()
         grouped = " ".join(digits[at:at + 4] for at in range(0, 16, 4))
-        pairs += [(call("read", text.encode()), f"ok {password}")
+        pairs += [(call(name, text.encode()), f"ok pw {password}") for name in READ_ALONE
                   for text in (words, words.lower(), words.title(),
                                digits, password, grouped, grouped.lower())]
         pairs += [(call("words", password, 29), f"ok {len(words)} {words.encode().hex()} clean"),
@@ -41,10 +43,10 @@ def every_word(driver):
                 bits = sum(at << 11 * (5 - i) for i, at in enumerate(places))
                 password = bits >> 2
             text = " ".join(model.WORDS[at] for at in places)
-            lines.append(call("read", text.encode()))
-            wanted.append(f"ok {password:016x}")
+            lines += [call(name, text.encode()) for name in READ_ALONE]
+            wanted += [f"ok pw {password:016x}"] * len(READ_ALONE)
     harness.hold_to(lines, harness.asked(driver, lines), wanted)
-    return f"{len(lines)} texts read as the password they were made from"
+    return f"{len(lines)} readings: the password that the text was made from"
 
 
 def upper(_rng, text):
@@ -229,22 +231,21 @@ def each_pattern(driver):
     """What is marked is what was made so; where nothing was, the answer is the model's, and not 31."""
     made = list(patterns(random.Random(64), 20))
     all_patterns(made)
-    lines = [call("read", text) for _, text in made]
-    wanted = [f"no 31 {pattern}" if "1" in pattern else model.replay(line)[0] for (pattern, _), line in zip(made, lines)]
+    lines = [call(name, text) for name in READ_ALONE for _, text in made]
+    wanted = [f"no 31 {pattern}" if "1" in pattern else model.replay(line)[0] for (pattern, _), line in zip(made * len(READ_ALONE), lines)]
     marked = sum(answer.startswith("no 31") for answer in wanted)
-    if marked != 63 * 3 * 20:
-        raise Failed(f"{marked} texts are marked, of which {63 * 3 * 20} were made so")
+    if marked != 63 * 3 * 20 * len(READ_ALONE):
+        raise Failed(f"{marked} readings are marked, of which {63 * 3 * 20 * len(READ_ALONE)} were made so")
     harness.hold_to(lines, model.replay("\n".join(lines)), wanted)
     harness.hold_to(lines, harness.asked(driver, lines), wanted)
-    return f"{len(lines)} texts of 64 patterns in three cases, by driver and model: marked as they were made"
+    return f"{len(made)} texts of 64 patterns in three cases, by driver and model: marked as they were made"
 
 
 def replies_at_random(driver):
     rng = random.Random(33)
     texts = ODD + [some_case(rng, kind(rng)) for kind in KINDS for _ in range(1600)]
-    lines = [call("read", text) for text in texts]
-    answers_wanted(model.replay("\n".join(lines)))
-    return harness.same_as_model(driver, lines)
+    answers_wanted(model.replay("\n".join(call("readplain", text) for text in texts)))
+    return harness.same_as_model(driver, [call(name, text) for text in texts for name in READ_ALONE])
 
 
 def writers_at_every_room(driver):

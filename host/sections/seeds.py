@@ -85,11 +85,11 @@ SCENES = {
         renewed(b"lift1", "no 33", text=NO_PASSWORD), both(FIRST, line="0.1:60"), renewed(b"lift1"), both(b"lift1", FIRST, line="1:60")],
     "nor does 63 keep a seed for longer": [
         *taken(*LIFTS[:7]), *good("join 0 7"), *refused(FIRST, FIRST, b"lift3"), renewed(b"lift8"), *taken(FIRST), both(FIRST, *LIFTS[:0:-1])],
-    "63 stands behind 51, 21, 23 and 24, and before all that is said of the text": [
+    "63 stands behind 51, 21, 23 and 24; all that is said of the text comes before them, but whether it is right": [
         *taken(b"lift1"), *good("join 0 7", "join 1 7"), renewed(FIRST, "no 60", 1), renewed(FIRST, "no 51", algorithm=3, count=1),
         renewed(FIRST, "no 21", algorithm=3), renewed(FIRST + b"1234567", "no 23"), renewed(FIRST + b"_", "no 24"), renewed(b"", "no 23"),
-        *(renewed(FIRST, "no 63", text=text) for text in (b"", LONG, UNKNOWN, UNSUMMED, NO_PASSWORD, WRONG, WORDS_7)),
-        both(b"lift1", FIRST, line="0.1:60")],
+        *(renewed(FIRST, answer, text=text) for text, answer in ((LONG, "no 30"), (UNKNOWN, "no 31 010000"), (UNSUMMED, "no 32"), (NO_PASSWORD, "no 33"),
+                                                                 (b"", "no 33"), (WRONG, "no 63"), (WORDS_7, "no 63"))), both(b"lift1", FIRST, line="0.1:60")],
     "another seed is one that begins with a remembered one, or that a remembered one begins with": [
         *taken(b"lift1", b"lift12", b"lift", b"l", b"ift1", b"lift1lift1lift12", b"lift1lift1lift1"), *good("join 0 7"), renewed(b"lift1lift1lift13"),
         both(b"lift1lift1lift13", b"lift1lift1lift1", b"lift1lift1lift12", b"ift1", b"l", b"lift", b"lift12", b"lift1")],

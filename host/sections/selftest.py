@@ -8,6 +8,7 @@ import sys
 import extensions
 import harness
 import model
+import offers
 import remembered
 import scripts
 import tidy
@@ -128,6 +129,16 @@ def renewed(seed, answer="ok 9", id=7, algorithm=1):
     return [(f"join 0 {id}", "ok"), (call("renew", 0, algorithm, 9, seed, "0" * 16, b"?"), answer)]
 
 
+def by_offer(seed, answer):
+    """Port 0 joins account 7 and offers a renewal."""
+    return [("join 0 7", "ok"), (call("orenew", 0, 1, 9, seed, "0" * 16, "0" * 16), answer)]
+
+
+def unread(seed):
+    """A renewal by port 0, wherever it is, with a text that isn't read."""
+    return call("renew", 0, 1, 9, seed, "0" * 16, b"?"), "no 33"
+
+
 def removed(*ids):
     return [(f"remove {id}", "ok") for id in ids]
 
@@ -138,7 +149,7 @@ def by_reply(text, answer):
 
 
 # 31 accounts, and short scripts, each with what it shows, once and nothing else. A seed that shows nothing is one that only a wrong reader knows:
-# of an account that was removed, or forgot it, or had another room, or was in the table before the last.
+# of an account that was removed, or forgot it, or had another room, or was in the table before the last; or named by an unread text out of turn.
 MANY = [pair for id in range(101, 132) for pair in enrolled(id, b"a")]
 NEW = [("new", "ok")]
 SHORT = [
@@ -168,6 +179,14 @@ SHORT = [
      ["63, 0 back", "63, 1 back", "63 under the other algorithm", "ok after 61"]),
     ([*enrolled(7, b"lift1"), *by_reply(b"hex:?", "ok 8"), *by_reply(b"init-hex:?:md5 9 lift1", "no 35"), *by_reply(b"init-hex:?:md5 9:?", "no 23"),
       *by_reply(b"HEX:?:md5 9 lift1:?", "no 34")], []),
+    ([*enrolled(7, b"lift1"), *by_offer(b"lift2", "no 61"), *by_offer(b"lift2", "ok 9"), ("join 0 7", "ok"), (call("offer", 0, "0" * 16), "ok 8"),
+      *by_offer(b"LIFT1", "no 63"), *by_offer(b"dog1", "no 59")], ["ok after 61", "63, 1 back", "63 in upper case", "63 after a reply"]),
+    ([*enrolled(7, b"lift1"), *by_reply(b"init-word:?:md5 9 dog1:?", "no 33"), (call("reply", 3, b"init-word:?:md5 9 cat1:?"), "no 33"),
+      *renewed(b"cat1")[1:], *renewed(b"dog1"), *removed(7), unread(b"cat1")], ["ok after 33"]),
+    ([*enrolled(7, b"lift1"), ("join 1 7", "ok"), ("join 0 7", "ok"), unread(b"dog1"), ("leave 1", "ok"), ("tick 60", "ok"), unread(b"dog1"),
+      *renewed(b"dog2", "no 61"), unread(b"dog1"), *renewed(b"dog1")], []),
+    ([*enrolled(7, b"lift1"), ("join 1 7", "ok"), ("tick 50", "ok"), ("join 0 7", "ok"), ("tick 69", "ok"), unread(b"dog1"), *renewed(b"dog1")[1:]],
+     ["ok after 33"]),
 ]
 
 
@@ -194,7 +213,7 @@ SHOWING = [
     (replied(b"hex:" * 65, "no 30"), ["30 by hex", "30 before 35"]), (replied(b"HEX:", "no 34"), ["34, in upper case"]),
     (replied(b"hex :", "no 34"), ["34, with a blank"]),
     (replied(b":", "no 34"), ["34, no name"]), (replied(b"a:b:c", "no 34"), ["34, another name", "34 before 35"]),
-    (replied(b"a:", "no 60"), ["60 before 30 or 34"]),
+    (replied(b"a:", "no 60"), []),
     (replied(b"hex:", "no 60"), []), (replied(b"hex::", "no 35"), ["35 by hex", "35, a login with a part too many"]),
     (replied(b"init-hex:", "no 35"), ["35 by init-hex", "35, a renewal with a part too few"]),
     (replied(b"hex:", "no 33"), ["33 by hex", "33, a login with nothing"]), (replied(b"word:" + DIGITS, "no 33"), ["33 by word", "33, hex for words"]),
@@ -203,11 +222,12 @@ SHOWING = [
     (replied(b"word:" + SIX, "no 61"), ["61 by word"]), (replied(b"word:" + OTHER_SIX, "no 31 000001"), ["31 by word"]),
     (replied(b"init-word:A:md5 0499 a:" + SIX, "no 51"), ["51 by init-word", "51, a leading zero"]),
     (replied(b"init-word:A:MD5 x a:" + SIX, "no 51"), ["51 by init-word", "51, a byte that is no digit", "51 before 21"]),
-    (replied(b"init-word:sha1:md5:A", "no 51"), ["51 by init-word", "51, no count", "51, the parameters in front"]),
+    (replied(b"init-word:sha1:md5:A", "no 33"), ["33 by init-word", "33, the parameters in front"]),
+    (replied(b"init-word:A:md5:A", "no 51"), ["51 by init-word", "51, no count"]),
     (replied(b"init-hex:A: :A", "no 51"), ["51 by init-hex", "51, no count", "51, blank parameters", "51 before 21"]),
     (replied(b"init-hex:A:MD5 9 _:A", "no 21"), ["21 by init-hex", "21, a name in upper case", "21 before 23 or 24"]),
     (replied(b"init-hex:A:md5 9 a b:A", "no 24"), ["24 by init-hex", "24, a blank in the seed"]),
-    (replied(b"init-hex:A:md5 9 A:", "no 63"), ["63 by init-hex", "63, in upper case", "63 before 33"]),
+    (replied(b"init-hex:A:md5 9 A:", "no 63"), ["63 by init-hex", "63, in upper case"]),
     (replied(b"init-hex:A:md5 9999 A:A", "ok 9999"), ["ok by init-hex", "ok, a count of 9999", "ok, a seed in upper case"]),
     (replied(b"init-word:%s:md5 9 a:%s" % (SIX, OTHER_SIX), "no 31 000001"), ["31 by init-word", "31, the new password's marks"]),
     (replied(b"init-word:%s:md5 9 a:%s" % (OTHER_SIX, SIX), "no 31 000001"), ["31 by init-word", "31, the present password's marks"]),
@@ -222,10 +242,10 @@ SHOWING = [
     (replied(b"init-hex:A:md5 9:A", "no 23"), ["23 by init-hex", "23, no seed"]),
     (replied(b"init-hex:A:md5 9 %s:A" % (b"a" * 17), "no 23"), ["23 by init-hex", "23, 17 characters or more"]),
     (replied(b"init-hex:A:md5 9 a_:A", "no 24"), ["24 by init-hex", "24, another character"]),
-    ((call("read", b"a:" + b" " * 127), "no 30"), ["30 by read, a colon"]),
+    ((call("readplain", b"a:" + b" " * 127), "no 30"), ["30 by readplain, a colon"]), ((call("read", b"a:" + b" " * 255), "no 30"), []),
     (("renew 9 1 9 61 " + "0" * 16 + " " + "3a" * 129, "no 30"), ["30 by renew, a colon"]),
     (challenged(b" ext,\n", 20, 1), ["mark 1, ext and a comma", "mark 1, ended by a newline"]),
-    ((call("read", b"a:"), "no 33"), ["33 by read, a colon"]), ((call("read", b"a"), "no 33"), []),
+    ((call("readplain", b"a:"), "no 33"), ["33 by readplain, a colon"]), ((call("readplain", b"a"), "no 33"), []), ((call("read", b"a:"), "no 34"), []),
     (("renew 9 1 9 61 " + "0" * 16 + " 3a", "no 33"), ["33 by renew, a colon"]),
     (challenged(b" ext\n", 19, 1), ["mark 1, ext", "mark 1, ended by a newline"]),
     (challenged(b" \text,a,\r ", 24, 1), ["mark 1, ext and a list", "mark 1, a carriage return in the list", "mark 1, past a tab", "mark 1, ended by a space"]),
@@ -246,21 +266,104 @@ def extended():
             *without_each(replay.hold_to_extended, extensions.KINDS)]
 
 
+def read(text, answer):
+    return call("read", text), answer
+
+
+def read_init(parameters, algorithm, count, seed):
+    """A renewal in hex that was read, with what is said of its values."""
+    return read(b"init-hex:0:%s:0" % parameters, f"ok init {algorithm} {count} {model.hex_word(seed)} {'0' * 16} {'0' * 16}")
+
+
+def offered(answer, *values):
+    """An offer at port 0: of a password, or of a renewal with these values."""
+    return call("orenew" if values else "offer", 0, *values, *["0" * 16] * (2 if values else 1)), answer
+
+
+INIT_READ = "ok by read, init-hex"
+# calls with their answers, and what each shows; what shows nothing is what only a wrong reader takes for it
+OFFERING = [
+    (read(DIGITS, f"ok pw {'0' * 16}"), ["ok by read, plain"]), (read(b"hex:" + DIGITS, f"ok pw {'0' * 16}"), ["ok by read, hex"]),
+    (read(b"HEX:", "no 34"), ["34 by read"]), (read(b" hex:", "no 34"), ["34 by read"]), (read(b"word::", "no 35"), ["35 by read, word"]),
+    (read(b" " * 129, "no 30"), ["30 by read, plain"]), (read(b"word:" + b" " * 252, "no 30"), ["30 by read, word"]),
+    ((call("readplain", b"hex:"), "no 33"), ["33 by readplain"]), ((call("readplain", SIX), f"ok pw {'0' * 16}"), ["ok by readplain"]),
+    (read_init(b"md5 9 a", 1, 9, b"a"), [INIT_READ, "read: algorithm 1", "read: count 9, as it is"]),
+    (read_init(b"sha1 1 a", 2, 1, b"a"), [INIT_READ, "read: algorithm 2", "read: count 1, as it is"]),
+    (read_init(b"sha1 0 a", 1, 0, b"a"), [INIT_READ, "read: count 0, as it is"]),
+    (read_init(b"MD5 0499 a", 0, 0, b"a"), [INIT_READ, "read: algorithm 0, a name in upper case", "read: count 0, a leading zero"]),
+    (read_init(b"md4 1.5 a", 0, 0, b"a"), [INIT_READ, "read: algorithm 0, another name", "read: count 0, a byte that is no digit"]),
+    (read_init(b"md5 12345 A", 1, 0, b"A"), [INIT_READ, "read: algorithm 1", "read: count 0, five digits or more", "read: a seed in upper case"]),
+    (read_init(b"md5 12345 A", 1, 2345, b"a"), [INIT_READ, "read: algorithm 1"]),
+    (read_init(b"md5", 1, 0, b""), [INIT_READ, "read: algorithm 1", "read: count 0, nothing there", "read: no seed"]),
+    (read_init(b" ", 0, 0, b""), [INIT_READ, "read: count 0, nothing there", "read: no seed"]),
+    (read_init(b"md5 2 " + b"_ " * 55 + b"a", 1, 2, b"_ " * 55 + b"a"),
+     [INIT_READ, "read: algorithm 1", "read: count 2, as it is", "read: a seed of 17 bytes or more", "read: a seed of 100 bytes or more",
+      "read: a seed with a blank", "read: a seed with another character"]),
+    (read(b"init-word:%s:md5 9 a:%s" % (SIX, OTHER_SIX), "no 31 000001"), ["31 by read, init-word", "read: 31, the new password's marks"]),
+    (read(b"init-word:%s:md5 9 a:%s" % (OTHER_SIX, SIX), "no 31 000001"), ["31 by read, init-word", "read: 31, the present password's marks"]),
+    (read(b"init-word:%s:x:%s" % (OTHER_SIX, OTHER_SIX), "no 31 000001"), ["31 by read, init-word"]),
+    (read(b"init-hex:A:md5 9 a: ", "no 33"), ["33 by read, init-hex", "read: 33, the new password alone is blank"]),
+    (read(b"init-hex: :md5 9 a:A", "no 33"), ["33 by read, init-hex", "read: 33, the present password alone is blank"]),
+    (read(b"init-hex:::", "no 33"), ["33 by read, init-hex"]), (("read", "bad"), []), (("offer 0", "bad"), []),
+    (offered("ok 8"), ["ok by offer"]), (offered("no 61"), ["61 by offer"]), (offered("no 60", 1, 9, b"a"), ["60 by orenew"]),
+    (offered("no 58", 1, 1, b"a"), ["58 by orenew", "orenew: 58 before a value's"]),
+    (offered("no 59", 1, 9, b"_"), ["59 by orenew", "orenew: 59 before a value's"]),
+    (offered("no 51", 3, 1, b"a"), ["51 by orenew", "orenew: 51 before 21"]), (offered("no 51", 1, 10000, b""), ["51 by orenew", "orenew: 51 before 23 or 24"]),
+    (offered("no 21", 0, 9, b"_"), ["21 by orenew", "orenew: 21 before 23 or 24"]), (offered("no 21", 0, 9, b"a"), ["21 by orenew"]),
+    (offered("no 23", 1, 9, b"_" * 17), ["23 by orenew", "orenew: 23 before 24"]), (offered("no 24", 1, 9, b"_"), ["24 by orenew"]),
+    (offered("no 63", 1, 9, b"a"), ["63 by orenew"]), (offered("ok 9", 1, 9, b"a"), ["ok by orenew"]),
+]
+# the same again at the port that was accepted: right after it, after a wrong one, by the other call, with a call between
+TWICE = [([offered("ok 8"), offered("no 59")], "59 by offer, after ok", 1), ([offered("no 61"), offered("no 59")], "59 by offer, after ok", 0),
+         ([offered("ok 9", 1, 9, b"a"), offered("no 59", 1, 9, b"a")], "59 by orenew, after ok", 1),
+         ([offered("ok 8"), offered("no 59", 1, 9, b"a")], "59 by orenew, after ok", 0),
+         ([offered("ok 8"), ("dump", "ok"), offered("no 59")], "59 by offer, after ok", 0)]
+# calls on a table where port 0 is in front of port 1, and port 2 at an account that is used up; what each hides
+BEHIND = [
+    ("reply 4 3f", "no 33", ["unread before 55, plain", "33 before the table's"]),
+    ("reply 3 783a", "no 34", ["unread before 59, extended", "34 before the table's"]),
+    (call("reply", 1, b"init-hex:"), "no 35", ["unread before 60, init", "35 before the table's"]), (call("reply", 0, b"init-hex:"), "no 35", []),
+    (call("reply", 2, OTHER_SIX), "no 31 000001", ["unread before 58, plain", "31 before the table's"]),
+    ("reply 2 3030", "no 58", []), ("reply 0 3f", "no 33", []),
+    (call("reply", 0, b"init-hex::md5 9 DOG2:"), "no 33", ["unread before 63, init", "33 before the table's"]),
+    (call("reply", 0, b"init-hex::md5 9 a:"), "no 33", []), ("read 3f", "no 33", []), ("reply 0", "bad", []),
+    *((call("renew", 0, *values, "0" * 16, b"?"), "no 33", [f"unread before {number}, renew", "33 before the table's"]) for number, values in
+      ((51, (3, 1, b"")), (21, (3, 9, b"")), (23, (1, 9, b"")), (24, (1, 9, b"_")), (63, (2, 9, b"Dog2")))),
+    (call("renew", 0, 1, 9, b"a", "0" * 16, b"?"), "no 33", []),
+]
+
+
+def behind():
+    """What each call hides, on that table."""
+    table = model.Table()
+    stored = f"{model.hashed_once(model.MD5, 0):016x}"
+    for line in (f"enrol 1 1 9 646f6732 {stored}", f"enrol 2 1 2 61 {stored}", "join 0 1", "join 1 1", "join 3 2", "join 2 2", f"offer 3 {'0' * 16}"):
+        model.answer(table, line)
+    return [offers.hidden(table, line, answer) == due for line, answer, due in BEHIND]
+
+
+def offering():
+    """Each call as it should be read; and runs without some kind."""
+    return [*(offers.kinds_in(*zip(pair)) == collections.Counter(due) for pair, due in OFFERING), *behind(),
+            *(offers.kinds_in(*zip(*pairs))[kind] == count for pairs, kind, count in TWICE), *without_each(replay.hold_to_offers, offers.KINDS)]
+
+
 def coverage_can_fail(driver):
     """A run in which some refusal never came, or no reply was accepted under some algorithm, is found; so is one with few challenges, without
     some pattern of misread words, without some way of four ports in lines, with one line at a time, with a manner or a ring that doesn't show, or
-    without some kind of renewal, of extended reply or of mark."""
+    without some kind of renewal, of extended reply, of mark, of reading or of offer."""
     numbers_given = [*map(str, scripts.NUMBERS), *(f"21 by {name}" for name in scripts.TOLD),
-                     *(f"31 with two marks or more by {name}" for name in scripts.READERS)]
-    accepted = [("reply", 1, 1), ("reply", 2, 2), *itertools.product(("renew", "init"), (1, 2), (1, 2))]
+                     *(f"31 with two marks or more by {name}" for name in scripts.READING)]
+    logins = [(name, each, each) for name in ("reply", "offer") for each in (1, 2)]
+    accepted = [*logins, *itertools.product(("renew", "init", "orenew"), (1, 2), (1, 2))]
     made = list(replies.patterns(random.Random(64), 20))
-    read = [f"ok {number} 1 10 1 12" for number in model.NAMES] * 2000 + [f"no {number}" for number in range(20, 26)]
+    said = [f"ok {number} 1 10 1 12" for number in model.NAMES] * 2000 + [f"no {number}" for number in range(20, 26)]
     found = [*without_each(replay.hold_to_numbers, numbers_given), *without_each(replay.hold_to_algorithms, accepted),
              *without_each(replay.hold_to_lines, scripts.WAYS), fails(replay.hold_to_lines, collections.Counter([*scripts.WAYS, *[(1,)] * 40])),
-             *manners(), *rings(), *memory(), *extended(),
+             *manners(), *rings(), *memory(), *extended(), *offering(),
              not fails(replies.all_patterns, made), fails(replies.all_patterns, [(pattern, text.upper()) for pattern, text in made]),
              *(fails(replies.all_patterns, [each for each in made if each[0] != gone]) for gone in ("000000", "101010")),
-             not fails(challenges.enough, read), *(fails(challenges.enough, read[at:][:len(read) - 1]) for at in (0, 1))]
+             not fails(challenges.enough, said), *(fails(challenges.enough, said[at:][:len(said) - 1]) for at in (0, 1))]
     if not all(found):
         raise Failed(f"of the {len(found)}, as they should be: {found}")
     return f"{len(found)} runs: what one lacks is reported, and nothing else"

@@ -15,7 +15,7 @@ use Rattle.password.specs.Password.{numberOf}
 use Rattle.accounts.specs.Rooms.{Room, remembered, roomOf, free}
 use Rattle.accounts.specs.declared.Proposed.{Proposed}
 
--- Enrol and Renew: "Seeds are kept in lower case"; R-1's algorithm is given by its number.
+-- Enrol and a renewal: "Seeds are kept in lower case"; R-1's algorithm is given by its number.
 abbrev pub withValues : ℕ → List (List ℕ) → ℕ → ℕ → List ℕ → ℕ → Room
 withValues id older number count seed password = record {
   id = id;
@@ -30,11 +30,11 @@ withValues id older number count seed password = record {
 abbrev pub newRoom : ℕ → ℕ → ℕ → List ℕ → List ℕ → Room
 newRoom id number count seed password = withValues id [] number count seed (numberOf password)
 
--- Renew: it remembers the new seed and the first seven of those that it remembered.
+-- A renewal: it remembers the new seed and the first seven of those that it remembered.
 abbrev pub renewedRoom : Room → ℕ → ℕ → List ℕ → ℕ → Room
 renewedRoom room number count seed password = withValues (room .id) (take 7 (remembered room)) number count seed password
 
--- Reply, on a match: "store the reply, lower the count by 1". The rest stays, R-1's algorithm too.
+-- A login, on a match: "store the reply, lower the count by 1". The rest stays, R-1's algorithm too.
 abbrev pub lowered : Room → ℕ → Room
 lowered room password = record {
   id = room .id;
@@ -62,7 +62,7 @@ seedOther seed present = must (not (isOneOf (map lowerOf seed) (remembered prese
 unfoldable pub newChecked : ℕ → ℕ → List ℕ → Checked
 newChecked number count seed = inOrder (countWithin count ∷ algorithmChecked (numbered number) ∷ seedChecked seed ∷ [])
 
--- Renew: 51, 21, 23, 24, 63.
+-- A renewal: 51, 21, 23, 24, 63.
 unfoldable pub valuesChecked : ℕ → ℕ → List ℕ → Room → Checked
 valuesChecked number count seed present =
     inOrder (countWithin count ∷ algorithmChecked (numbered number) ∷ seedChecked seed ∷ seedOther seed present ∷ [])

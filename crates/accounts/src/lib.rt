@@ -1,4 +1,4 @@
-// An account and its room, its seeds, and what becomes of it: new values at Enrol and Renew, one count down with a reply.
+// An account and its room, its seeds, and what becomes of it: new values at Enrol and at a renewal, one count down with a login.
 use password::algorithm::Algorithm;
 use refusal::Checked;
 

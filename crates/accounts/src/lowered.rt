@@ -35,7 +35,7 @@ pub fn write_challenge(account: Account, buf: &mut [u8]) -> Written
     write_by(true, algorithm, &seed[..n], count as u32, buf)
 }
 
-// The account one count down, with the password that was presented.
+// The account one count down, with the password that was offered.
 pub fn lower(mut account: Account, password: u64) -> Account
     ensures { λ r. ⌜ ((part : List ℕ) → roomOf r part ≡ lowered (roomOf account part) password) ⌝ }
 {

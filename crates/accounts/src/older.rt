@@ -1,5 +1,5 @@
-// The older seeds of all accounts are 3,808 bytes, which Reply and Renew are lent: seven places of 17 bytes for each of the 32 rooms, newest first. A place
-// has the seed's length, the seed, and what is left of 16 bytes. Here is what an accepted renewal makes of them.
+// The older seeds of all accounts are 3,808 bytes, which the offer of a renewal is lent: seven places of 17 bytes for each of the 32 rooms, newest first.
+// A place has the seed's length, the seed, and what is left of 16 bytes. Here is what an accepted renewal makes of them.
 ghost use mathlib.Core.Path.{_≡_};
 ghost use mathlib.Core.List.{_++_};
 ghost use Prim.Native.Nat.{_<_};

@@ -7,7 +7,7 @@ ghost use mathlib.Core.List.{List, [], _∷_};
 ghost use Rattle.refusal.specs.Checks.{inOrder};
 ghost use Rattle.password.specs.Algorithm as names;
 ghost use Rattle.password.specs.Algorithm.{algorithmChecked};
-ghost use Rattle.accounts.specs.Accounts.{withValues, newRoom, renewedRoom, countWithin, newChecked, valuesChecked, proposal, proposed};
+ghost use Rattle.accounts.specs.Accounts.{withValues, newRoom, renewedRoom, countWithin, seedOther, newChecked, valuesChecked, proposal, proposed};
 ghost use Rattle.accounts.specs.OlderBytes.{remembering};
 use crate::Account;
 use crate::FREE;
@@ -56,7 +56,7 @@ fn in_order(first: Checked, second: Checked, last: Checked) -> Checked
     last
 }
 
-// What Enrol and Renew check, and the writer of extended replies: 51, 21, 23, 24.
+// What Enrol checks, a renewal and the writer of extended replies: 51, 21, 23, 24.
 pub fn check_new(algorithm: u32, count: u32, seed: &[u8]) -> Checked
     ensures { λ r. ⌜ r ≡ newChecked algorithm count (now (seed .entry)) ⌝ }
 {
@@ -66,7 +66,19 @@ pub fn check_new(algorithm: u32, count: u32, seed: &[u8]) -> Checked
     in_order(counted, known, formed)
 }
 
-// What Renew checks: the same, and then 63.
+// 63, of a renewal: the new seed is none of those that the account in that room remembers.
+fn check_other(present: Account, older: &[u8], room: usize, seed: &[u8]) -> Checked
+    requires { ⌜ room < 32 ⌝ }
+    requires { ⌜ length (now older) ≡ 3808 ⌝ }
+    ensures { λ r. ⌜ r ≡ seedOther (now (seed .entry)) (roomOf present (partOf (now (older .entry)) room)) ⌝ }
+{
+    if is_remembered(present, older, room, seed) {
+        return Checked::Refused(Refusal::SeedSame);
+    }
+    Checked::Good
+}
+
+// What a renewal checks: the same, and then 63.
 fn check_values(
     present: Account,
     older: &[u8],
@@ -80,13 +92,8 @@ fn check_values(
     ensures { λ r. ⌜ r ≡ valuesChecked algorithm count (now (seed .entry)) (roomOf present (partOf (now (older .entry)) room)) ⌝ }
 {
     let new = check_new(algorithm, count as u32, seed);
-    if let Checked::Refused(_) = new {
-        return new;
-    }
-    if is_remembered(present, older, room, seed) {
-        return Checked::Refused(Refusal::SeedSame);
-    }
-    new
+    let other = check_other(present, older, room, seed);
+    in_order(new, other, Checked::Good)
 }
 
 // An account with that id, with so many older seeds, and these values.
@@ -133,7 +140,7 @@ pub fn enrolment(id: u16, algorithm: u32, count: u16, seed: &[u8], password: &[u
     }
 }
 
-// What Renew makes of them, in place of the present account of that room. Its older seeds are as they are once the present one is remembered.
+// What a renewal makes of them, in place of the present account of that room. Its older seeds are as they are once the present one is remembered.
 pub fn renewal(
     present: Account,
     older: &[u8],

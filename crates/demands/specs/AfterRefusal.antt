@@ -1,5 +1,5 @@
--- What is changed by the two refusals that change something, and that a refusal leaves every buffer as it was lent. (Of the bytes that Reply and
--- Renew are lent their own promises say it.)
+-- What is changed by the two refusals that change something, and that a refusal leaves every buffer as it was lent. (Of the bytes that the offer of
+-- a renewal is lent its own promise says it.)
 use Prim.Native.Nat.{ℕ}
 use mathlib.Core.Path.{_≡_, ap}
 use mathlib.Core.Bool.{true}
@@ -17,7 +17,7 @@ use Rattle.grounds.specs.Listed.{isIn}
 use Rattle.grounds.specs.WrongReplies.{wrong-reply}
 
 -- "the port leaves and its wrong run grows by 1, answer 61; at 3 the run is cleared, shut ticks become 900, answer 62": on every table these
--- two answer a wrong reply, of Reply or Renew, and change the port's own record and its line. No account is changed.
+-- two answer a wrong password, offered to log in or with a renewal, and change the port's own record and its line. No account is changed.
 pub wrong-reply-changes : (why : Refusal) → isIn (listingOf why .0) (61 ∷ 62 ∷ []) ≡ true
     → (c : Call) (s : State) → answer c s ≡ Answer.Refused why → WrongReply why c s
 wrong-reply-changes why wrong c s e = wrong-reply why wrong c s e

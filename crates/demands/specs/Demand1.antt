@@ -8,7 +8,6 @@ use mathlib.Core.List.{List, [], _∷_, _++_, map}
 use lib.Dec.{ltb}
 use lib.ListN.{length}
 use Rattle.refusal.specs.declared.Refusal.{Refusal}
-use Rattle.refusal.specs.declared.Checked.{Checked}
 use Rattle.refusal.specs.declared.Reading.{Reading}
 use Rattle.refusal.specs.Numbers.{listingOf, checkedNumbers, readingNumbers}
 use Rattle.refusal.specs.Each.{Each}
@@ -24,19 +23,20 @@ use Rattle.sixwords.specs.Spelling.{wordsOf}
 use Rattle.reply.specs.Reply.{sixWords, upperText, readingOf}
 use Rattle.reply.specs.Marked.{Marked}
 use Rattle.extended.specs.declared.reply_types.ReplyType.{ReplyType}
-use Rattle.extended.specs.ReplyTexts.{passwordBy}
+use Rattle.extended.specs.declared.reply_texts.ReplyText.{ReplyText}
+use Rattle.extended.specs.ReplyTexts.{passwordBy, replyTextOf, replyNumbers}
 use Rattle.extended.specs.ReplyWriting.{textByNumbers, extendedWritten}
 use Rattle.cards.specs.Cards.{cardOf, cardWritten}
 use Rattle.cards.specs.Printed.{answerOf}
 use Rattle.accounts.specs.Rooms.{Room}
 use Rattle.accounts.specs.Accounts.{valuesChecked}
 use Rattle.table.specs.Table.{State}
-use Rattle.table.specs.Steps.{renewChecked}
 use Rattle.readback.specs.ReplyRefusals.{unknown-text, unknown-refused, marks-one}
-use Rattle.reached.specs.Calls.{Call, Answer, answer, numbers, after}
-use Rattle.reached.specs.Presented.{Presents, inReply, tableChecked, textChecked}
+use Rattle.reached.specs.Calls.{Call, Answer, repliedAnswer, answer, numbers, after}
+use Rattle.reached.specs.Offered.{Offered, Offers}
+use Rattle.reached.specs.ReadAndOffered.{readAndOffered, readAndRenewed}
 use Rattle.reached.specs.InTurn.{Reached}
-use Rattle.grounds.specs.Listed.{isIn, listed, readNumber, writtenNumber, challengeNumber, Given}
+use Rattle.grounds.specs.Listed.{isIn, listed, readNumber, writtenNumber, replyNumber, challengeNumber, Given}
 use Rattle.grounds.specs.Conditions.{
   NoneHolds,
   FirstHolds,
@@ -48,7 +48,7 @@ use Rattle.grounds.specs.Conditions.{
   challengeRows,
   replyRows,
   partRows,
-  saidRows,
+  textRows,
   extendedRows,
   cardRows,
   programRows,
@@ -64,7 +64,7 @@ use Rattle.grounds.specs.Refusing as Refusing
 use Rattle.grounds.specs.RefusingCalls.{call-exactly}
 use Rattle.grounds.specs.CardProgram as CardProgram
 use Rattle.grounds.specs.Unchanged.{refused-unchanged}
-use Rattle.grounds.specs.HandedOn.{call-hands-on, renew-hands-on}
+use Rattle.grounds.specs.HandedOn.{call-never, reply-handed-on, renewal-handed-on}
 
 -- ---- the list
 
@@ -101,17 +101,26 @@ pub numbers-of-31 : (text : List ℕ) (m : ℕ) → readingOf text ≡ Reading.R
     → readingNumbers (readingOf text) ≡ (record { 0 = 31; 1 = m }, 0)
 numbers-of-31 text m e = ap readingNumbers e
 
--- Behind the table's checks, and only there, Reply and Renew answer with the marks of the text. Of an `init` reply they are those of the new
--- password, or else of the present one.
-pub reply-passes-marks-on : (port : ℕ) (text : List ℕ) (s : State) (m : ℕ)
-    → (answer (Call.Reply port text) s ≡ Answer.Refused (Refusal.WordUnknown m))
-    ↔ ((tableChecked port (inReply text) s ≡ Checked.Good) × (textChecked (inReply text) ≡ Checked.Refused (Refusal.WordUnknown m)))
-reply-passes-marks-on port text s m = call-hands-on (Refusal.WordUnknown m) refl refl port _ _ s (Presents.by-reply text)
+pub reply-numbers-of-31 : (text : List ℕ) (m : ℕ) → replyTextOf text ≡ ReplyText.Refused (Refusal.WordUnknown m)
+    → replyNumbers (replyTextOf text) ≡ (record { 0 = 31; 1 = m }, 0, 0, 0, 0, 0, 0, 0)
+reply-numbers-of-31 text m e = ap replyNumbers e
 
-pub renew-passes-marks-on : (port number count : ℕ) (seed new text : List ℕ) (s : State) (m : ℕ)
-    → (answer (Call.Renew port number count seed new text) s ≡ Answer.Refused (Refusal.WordUnknown m))
-    ↔ ((renewChecked port number count seed s ≡ Checked.Good) × (readingOf text ≡ Reading.Refused (Refusal.WordUnknown m)))
-renew-passes-marks-on port number count seed new text s m = renew-hands-on (Refusal.WordUnknown m) refl refl port number count seed new text s
+-- R-7: a caller that reads a text and offers what it says is answered with the marks exactly if the reading refuses so, whatever the table; Offer itself
+-- never answers 31. Of an `init` reply they are the marks of the new password, or else of the present one.
+pub reply-passes-marks-on : (port : ℕ) (text : List ℕ) (s : State) (m : ℕ)
+    → (repliedAnswer (readAndOffered port text s .answer) ≡ Answer.Refused (Refusal.WordUnknown m))
+    ↔ (replyTextOf text ≡ ReplyText.Refused (Refusal.WordUnknown m))
+reply-passes-marks-on port text s m = reply-handed-on (Refusal.WordUnknown m) refl port text s
+
+pub renewal-passes-marks-on : (port number count : ℕ) (seed : List ℕ) (new : ℕ) (text : List ℕ) (s : State) (m : ℕ)
+    → (repliedAnswer (readAndRenewed port number count seed new text s .answer) ≡ Answer.Refused (Refusal.WordUnknown m))
+    ↔ (readingOf text ≡ Reading.Refused (Refusal.WordUnknown m))
+renewal-passes-marks-on port number count seed new text s m = renewal-handed-on (Refusal.WordUnknown m) refl port number count seed new text s
+
+-- Nor does it answer any other of 30 to 35, on any table: these are the reading's alone.
+pub offer-refuses-no-text : (why : Refusal) → isIn (listingOf why .0) (30 ∷ 31 ∷ 32 ∷ 33 ∷ 34 ∷ 35 ∷ []) ≡ true
+    → (port : ℕ) (what : Offered) (c : Call) (s : State) → Offers port what c → answer c s ≡ Answer.Refused why → ⊥
+offer-refuses-no-text why text port what c s own e = call-never why text port what c s own e
 
 -- ---- "Bad input is refused by the number listed for it": for every input of each function, the number is the answer exactly if its
 -- condition holds and those before it don't, in the order of the checks, and there is no refusal exactly if none holds.
@@ -134,9 +143,9 @@ reply-refusals text = Refusing.reply-exactly text
 pub part-refusals : (kind : ReplyType) (part : List ℕ) → Exactly (readNumber (passwordBy kind part)) (partRows kind part)
 part-refusals kind part = Refusing.part-exactly kind part
 
--- The text of any reply, by itself: "34 unknown type, 35 a missing or extra part, both after 30", "then 31 to 33 for the new password and after it for
--- the present one". What its parameters are refused with is among `call-refusals`.
-pub reply-text-refusals : (text : List ℕ) → Exactly (checkedNumbers (textChecked (inReply text)) .0) (saidRows (λ number count seed. []) text)
+-- R-7, reading the text of any reply: "34 unknown type, 35 a missing or extra part, both after 30", "then 31 to 33 for the new password and after it for
+-- the present one"; of the parameters nothing is refused. What they are refused with where they are offered is among `call-refusals`.
+pub reply-text-refusals : (text : List ℕ) → Exactly (replyNumber (replyTextOf text)) (textRows text)
 reply-text-refusals text = Refusing.text-exactly text
 
 -- The writer of extended replies: 34, "then for `init` types 51, 21, 23, 24, then 40"

@@ -6,8 +6,6 @@ use mathlib.Core.Bool.{true}
 use mathlib.Core.List.{List}
 use lib.ListN.{length}
 use Rattle.refusal.specs.declared.Checked.{Checked}
-use Rattle.refusal.specs.declared.Reading.{Reading}
-use Rattle.refusal.specs.Numbers.{passwordIn}
 use Rattle.text.specs.Tests.{every}
 use Rattle.password.specs.PhraseAndSeed.{phraseChecked}
 use Rattle.password.specs.Algorithm.{numbered, algorithmIn}
@@ -16,7 +14,7 @@ use Rattle.accounts.specs.Rooms.{Room}
 use Rattle.table.specs.Table.{State, accountOf, lineOf}
 use Rattle.table.specs.Steps.{join, challengeFor}
 use Rattle.reached.specs.Calls.{Call, Answer, answer, after, run}
-use Rattle.reached.specs.Presented.{Presented, Presents}
+use Rattle.reached.specs.Offered.{Offered, Offers}
 use Rattle.reached.specs.InTurn.{Reached, ticks, quiet, quietMeanwhile, HasTurn, TurnBegins}
 use Rattle.reached.specs.Day.{passwordOf, Day}
 use Rattle.grounds.specs.TurnComes.{turn-starts, wait-ends, all-meanwhile, joined-waits, reached-run, reached-after}
@@ -60,8 +58,9 @@ turn-stays-own s r p i t during q u = turn-keeps p i during s (made s r) t q u
 
 -- "If the account isn't used up, and its stored password is what this pass-phrase, seed and count give, then the generator's reply to
 -- the challenge, in hex or words, is accepted in that turn." The pass-phrase is one that the generator takes, and the buffer for the
--- challenge has room for it. The algorithm is the account's own, whichever that is; the challenge names it, and has R-6's mark. So is every reply
--- that says the password to log in, as `hex:` and `word:` do (`repliesOf`).
+-- challenge has room for it. The algorithm is the account's own, whichever that is; the challenge names it, and has R-6's mark. A text is read, and what
+-- it says is offered: so is every one that is read to the password to log in, as `hex:` and `word:` replies are (`repliesOf`). R-7: so are the eight raw
+-- bytes of the generator's password, with no text.
 pub reply-is-accepted : (s : State) → Reached s → (p i : ℕ) → HasTurn p i s → (phrase : List ℕ) → phraseChecked phrase ≡ Checked.Good
     → 1 < accountOf i s .count
     → accountOf i s .password ≡ passwordOf phrase (accountOf i s) (accountOf i s .count)
@@ -90,15 +89,14 @@ pub later-reply-is-accepted : (s : State) → Reached s → (p i : ℕ) → HasT
 later-reply-is-accepted s r p i t phrase long unused stored buffer room during q u =
     day-later p i phrase buffer s (made s r) t unused long stored room during q u
 
--- R-1, "renewal may change it": after an accepted renewal, by Renew or, R-6, by Reply with an `init` text, also one to another algorithm, whose new
--- password is what a pass-phrase gives with the new algorithm, seed and count, the account isn't used up and its stored password is what
--- `reply-is-accepted` asks for, in a later turn.
+-- R-1, "renewal may change it": after an accepted renewal, also one to another algorithm, whose new password is what a pass-phrase gives with the new
+-- algorithm, seed and count, the account isn't used up and its stored password is what `reply-is-accepted` asks for, in a later turn.
 pub renewal-begins-a-day : (s : State) → Reached s → (p i : ℕ) → HasTurn p i s
-    → (n number count : ℕ) (seed : List ℕ) (new present : Reading) (c : Call) → Presents p (Presented.Renewal number count seed new present) c
-    → answer c s ≡ Answer.Count n → (phrase : List ℕ) → passwordIn new ≡ password (algorithmIn (numbered number)) phrase seed count
+    → (n number count : ℕ) (seed : List ℕ) (new present : ℕ) (c : Call) → Offers p (Offered.Renewal number count seed new present) c
+    → answer c s ≡ Answer.Count n → (phrase : List ℕ) → new ≡ password (algorithmIn (numbered number)) phrase seed count
     → (let room = accountOf i (after c s) in (1 < room .count) × (room .password ≡ passwordOf phrase room (room .count)))
 renewal-begins-a-day s r p i t n number count seed new present c own e phrase given =
-    let what = Presented.Renewal number count seed new present in
+    let what = Offered.Renewal number count seed new present in
     let taken = call-taken p n what s c own e in
     subst (λ (room : Room). (1 < room .count) × (room .password ≡ passwordOf phrase room (room .count)))
     (taken-by-id p i n what s (after c s) (made s r) t taken) (renewed-stored p n number count seed new present s (after c s) taken phrase given)

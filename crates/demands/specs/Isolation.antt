@@ -12,7 +12,7 @@ use Rattle.table.specs.Table.{State, isThere, heldOf, accountOf, lineOf, waits}
 use Rattle.table.specs.Steps.{enrol, remove, join, leave, tick}
 use Rattle.reached.specs.Calls.{Call, Answer, answer, after}
 use Rattle.reached.specs.InTurn.{Reached, madeBy, joinsFor, elsewhere}
-use Rattle.reached.specs.Presented.{Presented, Presents}
+use Rattle.reached.specs.Offered.{Offered, Offers}
 use Rattle.reached.specs.Day.{WrongReply}
 use Rattle.grounds.specs.Keeps.{made}
 use Rattle.grounds.specs.Isolated as Isolated
@@ -49,8 +49,8 @@ pub leave-leaves : (s : State) (p i : ℕ) → leave p s .answer ≡ Checked.Goo
     → heldOf i (leave p s .state) ≡ record { account = accountOf i s; line = left p (lineOf i s) }
 leave-leaves s p i e = Isolated.leave-held p i s e
 
--- So is a port whose reply or renewal is accepted,
-pub accepted-leaves : (s : State) (port n : ℕ) (what : Presented) (c : Call) → Presents port what c → answer c s ≡ Answer.Count n → (i : ℕ)
+-- So is a port whose password or renewal is accepted,
+pub accepted-leaves : (s : State) (port n : ℕ) (what : Offered) (c : Call) → Offers port what c → answer c s ≡ Answer.Count n → (i : ℕ)
     → lineOf i (after c s) ≡ left port (lineOf i s)
 accepted-leaves s port n what c own e i = Isolated.accepted-left port n what c s own e i
 

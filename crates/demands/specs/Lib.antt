@@ -1,6 +1,6 @@
 -- The letter's demands as theorems: Demand1, Demand2, Demand3, with AfterRefusal, NoAccounts, Tight, Isolation, SeedsAgain, ExtendedTexts, ExtendedReplies,
--- OneStep, TablesMade and Examples. Their words are in `grounds`, Listed, Conditions, LongestWait and TenSeeds, in `reached`, Calls, Presented, InTurn, Day,
--- Made and SeedsHad, and in `refusal`, Each; how they are proved is in `grounds`.
+-- ReadThenOffer, OneStep, TablesMade and Examples. Their words are in `grounds`, Listed, Conditions, LongestWait and TenSeeds, in `reached`, Calls, Offered,
+-- ReadAndOffered, OldCalls, InTurn, Day, Made and SeedsHad, and in `refusal`, Each; how they are proved is in `grounds`.
 pub mod Demand1
 pub mod Demand2
 pub mod Examples
@@ -14,3 +14,4 @@ pub mod Isolation
 pub mod SeedsAgain
 pub mod ExtendedTexts
 pub mod ExtendedReplies
+pub mod ReadThenOffer

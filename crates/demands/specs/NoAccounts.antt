@@ -15,7 +15,7 @@ use Rattle.accounts.specs.Accounts.{countWithin, newRoom}
 use Rattle.table.specs.Table.{State, lineOf, waits, withAccount}
 use Rattle.table.specs.TableChecks.{idGiven, portKnown, inLine, inFront}
 use Rattle.reached.specs.Calls.{Call, Answer, checkedAnswer, answer, after}
-use Rattle.reached.specs.Presented.{Presents}
+use Rattle.reached.specs.Offered.{Offers}
 use Rattle.reached.specs.InTurn.{Reached}
 use Rattle.reached.specs.Equal.{accountsIn}
 use Rattle.grounds.specs.Keeps.{made}
@@ -29,7 +29,7 @@ use Rattle.grounds.specs.WithoutAccounts.{
   leave-outside,
   leave-answer,
   challenge-nobody,
-  presents-nobody,
+  offers-nobody,
   tick-cools,
 }
 
@@ -52,8 +52,8 @@ answerWithout (Call.Remove id) = Answer.Refused Refusal.AccountMissing
 answerWithout (Call.Join port id) = atPort port Refusal.AccountMissing
 answerWithout (Call.Leave port) = atPort port Refusal.PortNotInLine
 answerWithout (Call.Challenge port room) = atPort port Refusal.PortNotInLine
-answerWithout (Call.Reply port text) = atPort port Refusal.PortNotInLine
-answerWithout (Call.Renew port number count seed password text) = atPort port Refusal.PortNotInLine
+answerWithout (Call.Offer port password) = atPort port Refusal.PortNotInLine
+answerWithout (Call.OfferRenewal port number count seed new password) = atPort port Refusal.PortNotInLine
 answerWithout Call.Tick = Answer.Done
 
 -- and the table after it: Enrol takes the first room, a tick lowers the ports' shut ticks, all else is as it was.
@@ -64,8 +64,8 @@ afterWithout (Call.Remove id) s = s
 afterWithout (Call.Join port id) s = s
 afterWithout (Call.Leave port) s = s
 afterWithout (Call.Challenge port room) s = s
-afterWithout (Call.Reply port text) s = s
-afterWithout (Call.Renew port number count seed password text) s = s
+afterWithout (Call.Offer port password) s = s
+afterWithout (Call.OfferRenewal port number count seed new password) s = s
 afterWithout Call.Tick s = record { rooms = s .rooms; ports = map cooled (s .ports) }
 
 -- So it is in every table that calls make.
@@ -75,10 +75,10 @@ empty-answers s r none (Call.Remove id) = remove-nobody s none id .0
 empty-answers s r none (Call.Join port id) = join-nobody s none port id .0
 empty-answers s r none (Call.Leave port) = leave-outside s (made s r) none port .0
 empty-answers s r none (Call.Challenge port room) = challenge-nobody s none port room .0 ∙ ap checkedAnswer (turn-outside s (made s r) none port)
-empty-answers s r none (Call.Reply port text) =
-    presents-nobody s none port _ _ (Presents.by-reply text) .0 ∙ ap checkedAnswer (turn-outside s (made s r) none port)
-empty-answers s r none (Call.Renew port number count seed password text) =
-    presents-nobody s none port _ _ (Presents.by-renew number count seed password text) .0 ∙ ap checkedAnswer (turn-outside s (made s r) none port)
+empty-answers s r none (Call.Offer port password) =
+    offers-nobody s none port _ _ (Offers.by-offer password) .0 ∙ ap checkedAnswer (turn-outside s (made s r) none port)
+empty-answers s r none (Call.OfferRenewal port number count seed new password) =
+    offers-nobody s none port _ _ (Offers.by-renewal number count seed new password) .0 ∙ ap checkedAnswer (turn-outside s (made s r) none port)
 empty-answers s r none Call.Tick = refl
 
 pub empty-after : (s : State) → Reached s → accountsIn (s .rooms) ≡ 0 → (c : Call) → after c s ≡ afterWithout c s
@@ -87,13 +87,13 @@ empty-after s r none (Call.Remove id) = remove-nobody s none id .1
 empty-after s r none (Call.Join port id) = join-nobody s none port id .1
 empty-after s r none (Call.Leave port) = leave-outside s (made s r) none port .1
 empty-after s r none (Call.Challenge port room) = refl
-empty-after s r none (Call.Reply port text) = presents-nobody s none port _ _ (Presents.by-reply text) .1
-empty-after s r none (Call.Renew port number count seed password text) =
-    presents-nobody s none port _ _ (Presents.by-renew number count seed password text) .1
+empty-after s r none (Call.Offer port password) = offers-nobody s none port _ _ (Offers.by-offer password) .1
+empty-after s r none (Call.OfferRenewal port number count seed new password) =
+    offers-nobody s none port _ _ (Offers.by-renewal number count seed new password) .1
 empty-after s r none Call.Tick = tick-cools s (made s r) none
 
 -- "A table .. that no calls could make is still answered": there a port may be in line for an account that isn't there. Leave is done,
--- and Challenge, Reply and Renew answer 60, or 54 in front.
+-- and Challenge and Offer answer 60, or 54 in front.
 abbrev pub inTurn : ℕ → State → Answer
 inTurn port s = checkedAnswer (inOrder (portKnown port ∷ inLine port s ∷ inFront port s ∷ Checked.Refused Refusal.AccountMissing ∷ []))
 
@@ -103,8 +103,8 @@ answerAnyway (Call.Remove id) s = Answer.Refused Refusal.AccountMissing
 answerAnyway (Call.Join port id) s = atPort port Refusal.AccountMissing
 answerAnyway (Call.Leave port) s = checkedAnswer (inOrder (portKnown port ∷ inLine port s ∷ []))
 answerAnyway (Call.Challenge port room) s = inTurn port s
-answerAnyway (Call.Reply port text) s = inTurn port s
-answerAnyway (Call.Renew port number count seed password text) s = inTurn port s
+answerAnyway (Call.Offer port password) s = inTurn port s
+answerAnyway (Call.OfferRenewal port number count seed new password) s = inTurn port s
 answerAnyway Call.Tick s = Answer.Done
 
 -- So it is in any table of 32 rooms, as every table has.
@@ -114,7 +114,7 @@ any-empty-answers s rooms none (Call.Remove id) = remove-nobody s none id .0
 any-empty-answers s rooms none (Call.Join port id) = join-nobody s none port id .0
 any-empty-answers s rooms none (Call.Leave port) = leave-answer port s
 any-empty-answers s rooms none (Call.Challenge port room) = challenge-nobody s none port room .0
-any-empty-answers s rooms none (Call.Reply port text) = presents-nobody s none port _ _ (Presents.by-reply text) .0
-any-empty-answers s rooms none (Call.Renew port number count seed password text) =
-    presents-nobody s none port _ _ (Presents.by-renew number count seed password text) .0
+any-empty-answers s rooms none (Call.Offer port password) = offers-nobody s none port _ _ (Offers.by-offer password) .0
+any-empty-answers s rooms none (Call.OfferRenewal port number count seed new password) =
+    offers-nobody s none port _ _ (Offers.by-renewal number count seed new password) .0
 any-empty-answers s rooms none Call.Tick = refl

@@ -1,6 +1,6 @@
 -- R-5, remembered seeds. `remembered` has the seeds that an account remembers, newest first, the present one in front; `isOneOf` says that a
--- seed is one of those. `Presents p (Presented.Renewal ..) c` says that with the call c the port p presents new values and passwords, by Renew or, R-6,
--- by Reply with an `init` text; `Renews` that a call renews the account: it is one of these, by the port that has the turn for it, and accepted.
+-- seed is one of those. `Offers p (Offered.Renewal ..) c` says that with the call c the port p offers new values and passwords; `Renews` that a call
+-- renews the account: it is one of these, by the port that has the turn for it, and accepted.
 -- `following` has the seeds that an account gets while calls are made, in order; `seedsAlong` has first the one that it has before them.
 use Prim.Native.Nat.{ℕ, _+_, _≤_, _<_}
 use mathlib.Core.Path.{_≡_, ap}
@@ -10,7 +10,6 @@ use mathlib.Core.List.{List, [], _∷_, _++_, map, reverse}
 use lib.ListN.{length, getD, take, drop}
 use Rattle.refusal.specs.declared.Refusal.{Refusal}
 use Rattle.refusal.specs.declared.Checked.{Checked}
-use Rattle.refusal.specs.declared.Reading.{Reading}
 use Rattle.refusal.specs.Checks.{inOrder}
 use Rattle.refusal.specs.Each.{Each}
 use Rattle.text.specs.Kinds.{lowerOf}
@@ -23,7 +22,7 @@ use Rattle.accounts.specs.Accounts.{countWithin, isOneOf}
 use Rattle.table.specs.Table.{State, Held, placeOf, isThere, roomAt, accountOf, ownAccount}
 use Rattle.table.specs.Steps.{turnChecked, enrol, remove}
 use Rattle.reached.specs.Calls.{Call, Answer, answer, answers, after, run}
-use Rattle.reached.specs.Presented.{Presented, Presents}
+use Rattle.reached.specs.Offered.{Offered, Offers}
 use Rattle.reached.specs.InTurn.{Reached, HasTurn}
 use Rattle.reached.specs.Day.{waitedFor}
 use Rattle.reached.specs.Made.{SeedGood, Different}
@@ -43,8 +42,8 @@ beforeSame p number count seed s = inOrder (turnChecked p s ∷ countWithin coun
 
 -- "63 now means equal to a remembered seed; its place in the order stays": on any table it is given exactly if the checks before it find
 -- nothing wrong and the new seed, in lower case, is one of those that the account remembers.
-pub refused-63-exactly : (p number count : ℕ) (seed : List ℕ) (new present : Reading) (c : Call) (s : State)
-    → Presents p (Presented.Renewal number count seed new present) c
+pub refused-63-exactly : (p number count : ℕ) (seed : List ℕ) (new present : ℕ) (c : Call) (s : State)
+    → Offers p (Offered.Renewal number count seed new present) c
     → (answer c s ≡ Answer.Refused Refusal.SeedSame)
     ↔ ((beforeSame p number count seed s ≡ Checked.Good) × (isOneOf (map lowerOf seed) (remembered (ownAccount p s)) ≡ true))
 refused-63-exactly p number count seed new present c s own = Remembering.remembered-exactly p number count seed new present c s own
@@ -53,18 +52,18 @@ refused-63-exactly p number count seed new present c s own = Remembering.remembe
 
 -- An accepted renewal, on any table and whatever the algorithms: the new seed is none of those that the account remembered, and it remembers
 -- then the new one, in lower case, and the first seven of those.
-pub renewal-remembers : (p n number count : ℕ) (seed : List ℕ) (new present : Reading) (c : Call) (s : State)
-    → Presents p (Presented.Renewal number count seed new present) c → answer c s ≡ Answer.Count n
+pub renewal-remembers : (p n number count : ℕ) (seed : List ℕ) (new present : ℕ) (c : Call) (s : State)
+    → Offers p (Offered.Renewal number count seed new present) c → answer c s ≡ Answer.Count n
     → (isOneOf (map lowerOf seed) (remembered (ownAccount p s)) ≡ false)
     × (remembered (waitedFor p s (after c s)) ≡ map lowerOf seed ∷ take 7 (remembered (ownAccount p s)))
 renewal-remembers p n number count seed new present c s own e =
-    let taken = call-taken p n (Presented.Renewal number count seed new present) s c own e in
-    let renewed = taken-renews p n number count seed new present s (after c s) taken .2 in
+    let taken = call-taken p n (Offered.Renewal number count seed new present) s c own e in
+    let renewed = taken-renews p n number count seed new present s (after c s) taken .1 in
     (renewed .other, ap remembered (renewed .becomes))
 
 -- In tables that calls make it is the account with the id for which the port has the turn.
-pub renewal-remembers-by-id : (s : State) → Reached s → (p i n number count : ℕ) (seed : List ℕ) (new present : Reading) (c : Call) → HasTurn p i s
-    → Presents p (Presented.Renewal number count seed new present) c → answer c s ≡ Answer.Count n
+pub renewal-remembers-by-id : (s : State) → Reached s → (p i n number count : ℕ) (seed : List ℕ) (new present : ℕ) (c : Call) → HasTurn p i s
+    → Offers p (Offered.Renewal number count seed new present) c → answer c s ≡ Answer.Count n
     → remembered (accountOf i (after c s)) ≡ map lowerOf seed ∷ take 7 (remembered (accountOf i s))
 renewal-remembers-by-id s r p i n number count seed new present c t own e =
     Remembering.renewed-by-id p i n c s (made s r) t e number count seed new present own

@@ -4,6 +4,7 @@ use denote.Ref.{now}
 use Rattle.panel.proofs.lift_md5.Reads as lift-md5
 use Rattle.panel.proofs.lift_sha1.Reads as lift-sha1
 use Rattle.panel.proofs.lift_password.Reads as lift-password
+use Rattle.panel.proofs.lift_read_plain.Reads as lift-read-plain
 use Rattle.panel.proofs.lift_read_reply.Reads as lift-read-reply
 use Rattle.panel.proofs.lift_write_hex.Reads as lift-write-hex
 use Rattle.panel.proofs.lift_write_words.Reads as lift-write-words
@@ -23,6 +24,9 @@ lift-sha1-determined k a y z e f p q = both p q
 
 pub lift-password-determined : Answers lift-password.Learnt
 lift-password-determined k a y z e f p q = p ∙ sym q
+
+pub lift-read-plain-determined : Answers lift-read-plain.Learnt
+lift-read-plain-determined k a y z e f p q = p ∙ sym q
 
 pub lift-read-reply-determined : Answers lift-read-reply.Learnt
 lift-read-reply-determined k a y z e f p q = p ∙ sym q

@@ -36,8 +36,8 @@ use Rattle.login.proofs.joining.join.Reads as join
 use Rattle.login.proofs.leaving.leave.Reads as leave
 use Rattle.login.proofs.ticking.tick.Reads as tick
 use Rattle.turns.proofs.challenge.Reads as challenge
-use Rattle.turns.proofs.reply.Reads as reply
-use Rattle.turns.proofs.renew.Reads as renew
+use Rattle.turns.proofs.offer.Reads as offer
+use Rattle.turns.proofs.offer_renewal.Reads as offer-renewal
 use Rattle.line.specs.Line.{waiting}
 use Rattle.accounts.specs.Rooms.{partOf, roomOf}
 use Rattle.accounts.specs.Accounts.{proposal}
@@ -123,7 +123,7 @@ write-challenge-determined k a y z e f p q = left _ _ p q
 pub lower-determined : (part : List ℕ) → AnswersSeen lower.Learnt (λ k y. roomOf y part)
 lower-determined part k a y z e f p q = p part ∙ sym (q part)
 
--- A table is seen by its view, beside the answer, and with the older seeds that Reply and Renew leave.
+-- A table is seen by its view, beside the answer, and with the older seeds: those that the offer of a renewal leaves, any beside the others.
 pub table-fresh-determined : (older : List ℕ) → AnswersSeen table-fresh.Learnt (λ k y. view y older)
 table-fresh-determined older k a y z e f p q = p older ∙ sym (q older)
 
@@ -145,8 +145,8 @@ tick-determined older k a y z e f p q = p older ∙ sym (q older)
 pub challenge-determined : AnswersAndLent challenge.Learnt (λ k e. now (e .1 .1 .0))
 challenge-determined k a y z e f p q = left _ _ (p .0 [], p .1 []) (q .0 [], q .1 [])
 
-pub reply-determined : AsSeen reply.Learnt (λ k a y e. answered y (now (e .1 .0)))
-reply-determined k a y z e f p q = p .0 ∙ sym (q .0)
+pub offer-determined : (older : List ℕ) → AnswersSeen offer.Learnt (λ k y. answered y older)
+offer-determined older k a y z e f p q = p older ∙ sym (q older)
 
-pub renew-determined : AsSeen renew.Learnt (λ k a y e. answered y (now (e .1 .0)))
-renew-determined k a y z e f p q = p .0 ∙ sym (q .0)
+pub offer-renewal-determined : AsSeen offer-renewal.Learnt (λ k a y e. answered y (now (e .1 .0)))
+offer-renewal-determined k a y z e f p q = p .0 ∙ sym (q .0)

@@ -12,8 +12,9 @@ use Rattle.reply.proofs.read.Reads as read
 use Rattle.reply.proofs.read_six.Reads as read-six
 use Rattle.extended.proofs.reply_writer.type_number.Reads as type-number
 use Rattle.extended.proofs.reply_texts.read.Reads as read-text
+use Rattle.extended.proofs.reply_texts.seed_part.Reads as seed-part
 use Rattle.extended.proofs.reply_writer.write.Reads as write-extended
-use Rattle.determined.specs.Determined.{Answers, AnswersAndLent, left}
+use Rattle.determined.specs.Determined.{Answers, AnswersSeen, AnswersAndLent, left}
 
 pub word-at-determined : Answers word-at.Learnt
 word-at-determined k a y z e f p q = p ∙ sym q
@@ -47,6 +48,16 @@ type-number-determined k a y z e f p q = p ∙ sym q
 
 pub read-text-determined : Answers read-text.Learnt
 read-text-determined k a y z e f p q = p ∙ sym q
+
+-- a part of the bytes lent: what is in it, in which bytes, and where it starts
+pub seed-part-determined : AnswersSeen seed-part.Learnt (λ k y. now y)
+seed-part-determined k a y z e f p q = p .0 ∙ sym (q .0)
+
+pub seed-part-bytes-determined : AnswersSeen seed-part.Learnt (λ k y. y .ptr .0)
+seed-part-bytes-determined k a y z e f p q = p .1 ∙ sym (q .1)
+
+pub seed-part-start-determined : AnswersSeen seed-part.Learnt (λ k y. y .ptr .1)
+seed-part-start-determined k a y z e f p q = p .2 ∙ sym (q .2)
 
 pub write-extended-determined : AnswersAndLent write-extended.Learnt (λ k e. now (e .1 .1 .1 .1 .1 .1 .0))
 write-extended-determined k a y z e f p q = left _ _ p q

@@ -17,7 +17,6 @@ use Rattle.text.specs.Scan.{runOf}
 use Rattle.text.specs.ScanLaws.{run-within, run-ends-within, stretch-length}
 use Rattle.text.specs.Tests.{every, both, either, cases}
 use Rattle.extended.specs.declared.reply_types.ReplyType.{ReplyType}
-use Rattle.extended.specs.declared.reply_texts.ReplyText.{ReplyText}
 use Rattle.extended.specs.ReplyTypes.{typed, typeIn, isInit}
 use Rattle.extended.specs.Parameters.{nameAt, countAfter, seedAfter, wordAfter, trimmed, parametersOf}
 use Rattle.extended.specs.ReplyTexts.{
@@ -30,7 +29,8 @@ use Rattle.extended.specs.ReplyTexts.{
   typedIn,
   layoutChecked,
   extendedOf,
-  replyTextOf,
+  Said,
+  saidIn,
 }
 
 -- ---- parts
@@ -140,10 +140,10 @@ last-counts s all t b e = cases (isWhite b) (λ w. absurd (short w)) (ap not)
 
 -- ---- the seed of a renewal stands within the text
 
-abbrev seedEnd : ReplyText → ℕ
-seedEnd (ReplyText.Login present) = 0
-seedEnd (ReplyText.Renewal number count start len new present) = start + len
-seedEnd (ReplyText.Refused why) = 0
+abbrev seedEnd : Said → ℕ
+seedEnd (Said.Login present) = 0
+seedEnd (Said.Renewal number count start len new present) = start + len
+seedEnd (Said.Refused why) = 0
 
 pub parameters-within : (part : List ℕ) → parametersOf part .start + parametersOf part .len ≤ length part
 unfolding parametersOf
@@ -176,19 +176,19 @@ renewal-end kind text =
 
 typed-end : (kind : ReplyType) (text : List ℕ) → seedEnd (typedIn kind text) ≤ length text
 unfolding typedIn
-typed-end kind text = either (λ (r : ReplyText). seedEnd r ≤ length text) (isInit kind) (λ e. renewal-end kind text) (λ e. zero-le)
+typed-end kind text = either (λ (r : Said). seedEnd r ≤ length text) (isInit kind) (λ e. renewal-end kind text) (λ e. zero-le)
 
-unless-end : (n : ℕ) (k : Checked) (r : ReplyText) → seedEnd r ≤ n → seedEnd (unless ReplyText.Refused k r) ≤ n
+unless-end : (n : ℕ) (k : Checked) (r : Said) → seedEnd r ≤ n → seedEnd (unless Said.Refused k r) ≤ n
 unless-end n Checked.Good r h = h
 unless-end n (Checked.Refused why) r h = zero-le
 
-text-end : (text : List ℕ) → seedEnd (replyTextOf text) ≤ length text
-unfolding replyTextOf extendedOf
+text-end : (text : List ℕ) → seedEnd (saidIn text) ≤ length text
+unfolding saidIn extendedOf
 text-end text =
     let kind = typeIn (typed (partAt text 0)) in
-    either (λ (r : ReplyText). seedEnd r ≤ length text) (eqb (colons text) 0) (λ e. zero-le)
+    either (λ (r : Said). seedEnd r ≤ length text) (eqb (colons text) 0) (λ e. zero-le)
     (λ e. unless-end (length text) (layoutChecked text) (typedIn kind text) (typed-end kind text))
 
-pub seed-within : (text : List ℕ) (number count start len : ℕ) (new present : Reading)
-    → replyTextOf text ≡ ReplyText.Renewal number count start len new present → start + len ≤ length text
-seed-within text number count start len new present e = subst (λ (r : ReplyText). seedEnd r ≤ length text) e (text-end text)
+pub said-within : (text : List ℕ) (number count start len : ℕ) (new present : Reading)
+    → saidIn text ≡ Said.Renewal number count start len new present → start + len ≤ length text
+said-within text number count start len new present e = subst (λ (r : Said). seedEnd r ≤ length text) e (text-end text)

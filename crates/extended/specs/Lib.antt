@@ -2,6 +2,7 @@
 pub mod ReplyTypes
 pub mod Parameters
 pub mod ReplyTexts
+pub mod Inside
 pub mod ReplyWriting
 pub mod ReplyWritingLaws
 pub mod Laws

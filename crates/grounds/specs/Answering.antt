@@ -1,4 +1,5 @@
--- In a port's turn the challenge is written and read, the generator answers it, and the reply is accepted, at once or later in the turn.
+-- In a port's turn the challenge is written and read, the generator answers it, and what it gives is accepted, from a text or as raw bytes, at once or
+-- later in the turn.
 use Prim.Native.Nat.{ℕ, zero, suc, _+_, _-_, _^_, _≤_, _<_}
 use native.Mathlib.Omega.{arith}
 use mathlib.Core.Path.{_≡_, refl, sym, ap, ap₂, _∙_, subst}
@@ -10,7 +11,6 @@ use lib.ListN.{length, getD, set, take, drop}
 use lib.Seq.{take-at}
 use Rattle.refusal.specs.declared.Checked.{Checked}
 use Rattle.refusal.specs.declared.Reading.{Reading}
-use Rattle.refusal.specs.Numbers.{passwordIn}
 use Rattle.refusal.specs.Each.{Each, each-weaker}
 use Rattle.text.specs.Kinds.{isUpper, isLower, isLetter, isDigit, lowerOf}
 use Rattle.text.specs.Tests.{every, cases, both, second-fails}
@@ -20,7 +20,8 @@ use Rattle.password.specs.declared.algorithm.Algorithm.{Algorithm}
 use Rattle.password.specs.Algorithm.{algorithmNumber, algorithmName, numbered, algorithmIn}
 use Rattle.password.specs.Laws.{generated-good, generated-numbered}
 use Rattle.password.specs.Bounds.{password-bound}
-use Rattle.password.specs.Password.{bytesOf, hash, password, generated}
+use Rattle.password.specs.Password.{bytesOf, numberOf, hash, password, generated}
+use Rattle.password.specs.EightBytesLaws.{number-bytes}
 use Rattle.text.specs.Counts.{widthOf}
 use Rattle.challenge.specs.declared.reading.Challenge.{Challenge}
 use Rattle.challenge.specs.Challenges.{challengeOf, seedOf, challengeWrittenBy}
@@ -30,7 +31,7 @@ use Rattle.sixwords.specs.Spelling.{wordsOf}
 use Rattle.reply.specs.Reply.{readingOf}
 use Rattle.extended.specs.declared.reply_types.ReplyType.{ReplyType}
 use Rattle.extended.specs.declared.reply_texts.ReplyText.{ReplyText}
-use Rattle.extended.specs.ReplyTexts.{replyTextOf}
+use Rattle.extended.specs.ReplyTexts.{withRead, replyTextOf}
 use Rattle.extended.specs.ReplyWriting.{renewalChecked, extendedText}
 use Rattle.readback.specs.ReplyRead.{hex-written-read, words-written-read}
 use Rattle.readback.specs.ExtendedRead.{extended-written-read}
@@ -41,10 +42,11 @@ use Rattle.line.specs.Line.{left}
 use Rattle.table.specs.Table.{State, Held, freeRoom, placeOf, accountOf, standsAt, ownRoom, ownAccount, lined}
 use Rattle.table.specs.Steps as Steps
 use Rattle.accounts.specs.Accounts.{lowered}
-use Rattle.table.specs.Steps.{turnChecked, challengeFor, challenge}
+use Rattle.table.specs.Steps.{turnChecked, challengeFor, challenge, offer}
 use Rattle.reached.specs.Calls.{Call, run}
-use Rattle.reached.specs.Presented.{Presented, nextOf}
-use Rattle.reached.specs.PresentedLaws.{next-id}
+use Rattle.reached.specs.Offered.{Offered, nextOf}
+use Rattle.reached.specs.OfferedLaws.{next-id}
+use Rattle.reached.specs.ReadAndOffered.{offeredAs, readAndOffered}
 use Rattle.reached.specs.InTurn.{quiet, HasTurn}
 use Rattle.reached.specs.Outcome.{turn-good}
 use Rattle.reached.specs.RoomsFound.{placed-id}
@@ -54,7 +56,7 @@ use Rattle.reached.specs.Day.{waitedFor, passwordOf, Accepts, repliesOf, Day}
 use Rattle.reached.specs.Made.{isKept, SeedGood, AccountGood, Made}
 use Rattle.grounds.specs.Keeps.{account-good, made-run, turn-there, turn-account, turn-has}
 use Rattle.grounds.specs.Owned.{turn-keeps, challenge-kept}
-use Rattle.grounds.specs.Replies.{Taken, accepted-account, turn-checked, reply-accepted, taken-renews}
+use Rattle.grounds.specs.Replies.{Taken, accepted-account, turn-checked, offer-accepted, taken-renews}
 use Rattle.grounds.specs.PlainTexts.{read-plain}
 
 -- ---- seeds as they are kept
@@ -86,22 +88,22 @@ kept-seed (b ∷ s) e =
 pub seed-checked : (seed : List ℕ) → SeedGood seed → seedChecked seed ≡ Checked.Good
 seed-checked seed good = rw (le-leb 1 (length seed) (good .from), le-leb (length seed) 16 (good .to), kept-seed seed (good .kept) .1)
 
--- ---- the four replies
+-- ---- the four texts
 
--- The text says this password, to log in.
-abbrev SaysLogin : ℕ → List ℕ → Type 0
-SaysLogin p text = replyTextOf text ≡ ReplyText.Login (Reading.Password p)
+-- The text is read to this password, to log in.
+abbrev ReadsLogin : ℕ → List ℕ → Type 0
+ReadsLogin p text = replyTextOf text ≡ ReplyText.Login p
 
 -- A plain text that reads as it does.
-plain-says : (p : ℕ) (text : List ℕ) → readingOf text ≡ Reading.Password p → SaysLogin p text
-plain-says p text e = plain-read text (read-plain text p e) ∙ ap ReplyText.Login e
+plain-reads : (p : ℕ) (text : List ℕ) → readingOf text ≡ Reading.Password p → ReadsLogin p text
+plain-reads p text e = plain-read text (read-plain text p e) ∙ ap (λ (r : Reading). withRead r ReplyText.Login) e
 
-replies-say : (p : ℕ) → p < 2 ^ 64 → Each (SaysLogin p) (repliesOf p)
+replies-read : (p : ℕ) → p < 2 ^ 64 → Each (ReadsLogin p) (repliesOf p)
 unfolding extendedText renewalChecked
-replies-say p small = (
-  plain-says p (hexOf p) (hex-written-read p small),
+replies-read p small = (
+  plain-reads p (hexOf p) (hex-written-read p small),
   (
-    plain-says p (wordsOf p) (words-written-read p small),
+    plain-reads p (wordsOf p) (words-written-read p small),
     (
       extended-written-read ReplyType.Hex p 1 2 [] p small small refl .said,
       (extended-written-read ReplyType.Word p 1 2 [] p small small refl .said, tt),
@@ -131,7 +133,7 @@ accepted-by-id p i next s at there same =
     ∙ accepted-account p next s (subst (λ (k : ℕ). k < length (s .rooms)) (sym at) there)
 
 -- What an accepted reply or renewal of the port that has the turn for i leaves of that account.
-pub taken-by-id : (p i n : ℕ) (what : Presented) (s state : State) → Made s → HasTurn p i s → Taken p n what s state
+pub taken-by-id : (p i n : ℕ) (what : Offered) (s state : State) → Made s → HasTurn p i s → Taken p n what s state
     → waitedFor p s state ≡ accountOf i state
 taken-by-id p i n what s state m t r =
     let at = turn-there p i s m t .3 in
@@ -145,6 +147,12 @@ taken-by-id p i n what s state m t r =
 -- Where the seed starts in the challenge for an account: behind `otp-`, the algorithm's name, the count and two spaces.
 abbrev pub seedPlace : Room → ℕ
 seedPlace account = 6 + length (algorithmName (account .algorithm)) + widthOf (account .count - 1)
+
+-- A text that is read to an accepted password is accepted.
+read-accepted : (p i count w : ℕ) (s : State) → Accepts i count w s (offer p w s) → (text : List ℕ) → ReadsLogin w text
+    → Accepts i count w s (readAndOffered p text s)
+unfolding readAndOffered
+read-accepted p i count w s accepts text e = subst (λ (r : ReplyText). Accepts i count w s (offeredAs p text r s)) (sym e) accepts
 
 -- The port that has the turn for the account i: where it stands, and what it waits for.
 module _ (p i : ℕ) (phrase : List ℕ) (s : State) (m : Made s) (t : HasTurn p i s) where
@@ -177,15 +185,15 @@ module _ (p i : ℕ) (phrase : List ℕ) (s : State) (m : Made s) (t : HasTurn p
         written-seed-read true (account .algorithm) (account .seed) (account .count - 1) right low ∙ kept-seed (account .seed) (own-good .seeds .0 .kept) .0,
       )
 
-  -- A text that says the password one count down is accepted.
-  reads-accepted : turnChecked p s ≡ Checked.Good → ownAccount p s .password ≡ passwordOf phrase (ownAccount p s) (ownAccount p s .count)
-      → (text : List ℕ) → replyTextOf text ≡ ReplyText.Login (Reading.Password (passwordOf phrase (ownAccount p s) (ownAccount p s .count - 1)))
-      → Accepts p i text (ownAccount p s .count - 1) (passwordOf phrase (ownAccount p s) (ownAccount p s .count - 1)) s
-  reads-accepted checked stored text r =
+  -- The password one count down is accepted.
+  own-accepted : turnChecked p s ≡ Checked.Good → ownAccount p s .password ≡ passwordOf phrase (ownAccount p s) (ownAccount p s .count) →
+      let w = passwordOf phrase (ownAccount p s) (ownAccount p s .count - 1) in
+      Accepts i (ownAccount p s .count - 1) w s (offer p w s)
+  own-accepted checked stored =
       let old = ownAccount p s in
       let w = passwordOf phrase old (old .count - 1) in
       let g = turn-good p s checked in
-      let took = reply-accepted p w text s checked r (next-hash (old .algorithm) phrase (old .seed) (old .count) (g .unused) ∙ sym stored) in
+      let took = offer-accepted p w s checked (next-hash (old .algorithm) phrase (old .seed) (old .count) (g .unused) ∙ sym stored) in
       record {
         answered = ap (λ (a : Steps.After Replied). a .answer) took;
         kept =
@@ -221,7 +229,8 @@ module _ (p i : ℕ) (phrase : List ℕ) (s : State) (m : Made s) (t : HasTurn p
       let text = challengeFor p s in
       let written : take (length text) (put text buffer) ≡ text = take-at text (drop (length text) buffer) (length text) refl in
       let seed-read = ap seedOf written ∙ own-challenge-read .1 in
-      let accepts = reads-accepted checked stored in
+      let accepts = own-accepted checked stored in
+      let text-accepts = read-accepted p i count new s accepts in
       record {
         written = length text;
         algorithm = algorithm;
@@ -238,8 +247,10 @@ module _ (p i : ℕ) (phrase : List ℕ) (s : State) (m : Made s) (t : HasTurn p
         algorithm-own = ap (λ (r : Room). r .algorithm) own;
         count-less = omega (arith, ap (λ (r : Room). r .count) own);
         generated-is = ap (λ (r : Room). passwordOf phrase r count) own;
-        says-accepted = accepts;
-        each-accepted = each-weaker (SaysLogin new) (λ (text : List ℕ). Accepts p i text count new s) accepts (repliesOf new) (replies-say new small);
+        read-accepted = text-accepts;
+        each-accepted = each-weaker (ReadsLogin new) (λ (text : List ℕ). Accepts i count new s (readAndOffered p text s)) text-accepts (repliesOf new)
+            (replies-read new small);
+        raw-accepted = subst (λ (w : ℕ). Accepts i count new s (offer p w s)) (sym (number-bytes new small)) accepts;
       }
 
 -- The challenge for the account i.
@@ -263,6 +274,10 @@ day p i phrase buffer s m t unused long stored room =
 
 -- ---- the challenge now, the reply later
 
+-- What holds of a count and a password holds of equal ones.
+moved : (P : ℕ → ℕ → Type 0) {n n′ w w′ : ℕ} → n ≡ n′ → w ≡ w′ → P n w → P n′ w′
+moved P {n} {n′} {w} {w′} e f x = subst (λ (k : ℕ). P k w′) e (subst (P n) f x)
+
 -- A challenge that was read is answered by what answers the one that would be read later, if the account is the same.
 day-then : (p i : ℕ) (phrase buffer : List ℕ) (s t : State) → accountOf i t ≡ accountOf i s → Day p i phrase buffer s s → Day p i phrase buffer t t
     → Day p i phrase buffer s t
@@ -284,10 +299,11 @@ day-then p i phrase buffer s t same now next =
       algorithm-own = now .algorithm-own;
       count-less = now .count-less;
       generated-is = now .generated-is;
-      says-accepted = subst (λ (n : ℕ). (text : List ℕ) → SaysLogin (now .generated-as) text → Accepts p i text n (now .generated-as) t) counts
-          (subst (λ (w : ℕ). (text : List ℕ) → SaysLogin w text → Accepts p i text (next .count) w t) one (next .says-accepted));
-      each-accepted = subst (λ (n : ℕ). Each (λ (text : List ℕ). Accepts p i text n (now .generated-as) t) (repliesOf (now .generated-as))) counts
-          (subst (λ (w : ℕ). Each (λ (text : List ℕ). Accepts p i text (next .count) w t) (repliesOf w)) one (next .each-accepted));
+      read-accepted = moved (λ (n w : ℕ). (text : List ℕ) → ReadsLogin w text → Accepts i n w t (readAndOffered p text t)) counts one
+          (next .read-accepted);
+      each-accepted = moved (λ (n w : ℕ). Each (λ (text : List ℕ). Accepts i n w t (readAndOffered p text t)) (repliesOf w)) counts one
+          (next .each-accepted);
+      raw-accepted = moved (λ (n w : ℕ). Accepts i n w t (offer p (numberOf (bytesOf w)) t)) counts one (next .raw-accepted);
     }
 
 pub day-later : (p i : ℕ) (phrase buffer : List ℕ) (s : State) → Made s → HasTurn p i s → 1 < accountOf i s .count → phraseChecked phrase ≡ Checked.Good
@@ -325,12 +341,12 @@ kept-passwords algorithm phrase seed zero = ap (λ (t : List ℕ). hash algorith
 kept-passwords algorithm phrase seed (suc n) = ap (λ (w : ℕ). hash algorithm (bytesOf w)) (kept-passwords algorithm phrase seed n)
 
 -- Where the new password is what the pass-phrase gives with the new values, the account has what the pass-phrase gives.
-pub renewed-stored : (p n number count : ℕ) (seed : List ℕ) (new present : Reading) (s state : State)
-    → Taken p n (Presented.Renewal number count seed new present) s state
-    → (phrase : List ℕ) → passwordIn new ≡ password (algorithmIn (numbered number)) phrase seed count
+pub renewed-stored : (p n number count : ℕ) (seed : List ℕ) (new present : ℕ) (s state : State)
+    → Taken p n (Offered.Renewal number count seed new present) s state
+    → (phrase : List ℕ) → new ≡ password (algorithmIn (numbered number)) phrase seed count
     → (let room = waitedFor p s state in (1 < room .count) × (room .password ≡ passwordOf phrase room (room .count)))
 renewed-stored p n number count seed new present s state r phrase given =
-    let renewed = taken-renews p n number count seed new present s state r .2 in (
+    let renewed = taken-renews p n number count seed new present s state r .1 in (
       renewed .unused,
       subst (λ (room : Room). room .password ≡ passwordOf phrase room (room .count)) (sym (renewed .becomes))
           (given ∙ kept-passwords (algorithmIn (numbered number)) phrase seed count),

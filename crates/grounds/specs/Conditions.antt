@@ -6,7 +6,6 @@ use mathlib.Core.Bool.{Bool, true, false, cond, not, _&&_, _||_}
 use mathlib.Core.List.{List, [], _∷_, _++_, map}
 use lib.Dec.{eqb, leb, ltb}
 use lib.ListN.{length, take, drop}
-use Rattle.refusal.specs.Numbers.{passwordIn}
 use Rattle.refusal.specs.Each.{Each}
 use Rattle.text.specs.Kinds.{lowerOf}
 use Rattle.text.specs.Tests.{every, same}
@@ -19,12 +18,10 @@ use Rattle.dictionary.specs.declared.Found.{Found}
 use Rattle.dictionary.specs.Dictionary.{placeOf}
 use Rattle.sixwords.specs.Places.{pairSum, joined}
 use Rattle.hex.specs.Hex.{sixteenDigits}
-use Rattle.reply.specs.Reply.{sixWords, upperText, placeIn, readingOf}
+use Rattle.reply.specs.Reply.{sixWords, upperText, placeIn}
 use Rattle.extended.specs.declared.reply_types.ReplyType.{ReplyType}
-use Rattle.extended.specs.declared.parameters.Parameters.{Parameters}
 use Rattle.extended.specs.ReplyTypes.{typed, typeNumbered, typeIn, isInit, isHex}
-use Rattle.extended.specs.Parameters.{parametersOf}
-use Rattle.extended.specs.ReplyTexts.{partAt, presentAt, parametersAt, newAt, colons, colonsOf, seedStart, seedPart}
+use Rattle.extended.specs.ReplyTexts.{partAt, presentAt, newAt, colons, colonsOf}
 use Rattle.challenge.specs.Challenges.{opening, tokenAt, endOf, countAt, seedAt, terminated, challengeOf}
 use Rattle.cards.specs.CardChecks.{countOf}
 use Rattle.cards.specs.Cards.{cardOf}
@@ -34,7 +31,6 @@ use Rattle.accounts.specs.Accounts.{isOneOf}
 use Rattle.table.specs.Table.{State, isThere, accountOf, portOf, waits, ownAccount, hasTurn}
 use Rattle.table.specs.Steps.{challengeFor}
 use Rattle.reached.specs.Calls.{Call}
-use Rattle.reached.specs.Presented.{presentIn, inReply}
 use Rattle.reached.specs.Equal.{accountsIn}
 
 -- ---- what it is that an answer goes by its rows
@@ -164,7 +160,7 @@ valuesRows number count seed present =
     newRows number count seed
     ++ (63, isOneOf (map lowerOf seed) (remembered present)) ∷ []
 
--- ---- R-6: the text of a reply, plain or extended
+-- ---- R-6 and R-7: reading the text of a reply, plain or extended
 
 -- "A text with a colon is an extended reply ..; others are plain."
 abbrev pub isPlain : List ℕ → Bool
@@ -174,19 +170,9 @@ isPlain text = eqb (colons text) 0
 abbrev pub isType : List ℕ → Bool
 isType name = same name (codes "hex") || same name (codes "word") || same name (codes "init-hex") || same name (codes "init-word")
 
--- An extended reply's type, where it is one of the four, and its parameters. The seed stands where they say.
+-- An extended reply's type, where it is one of the four.
 abbrev pub typeOf : List ℕ → ReplyType
 typeOf text = typeIn (typed (partAt text 0))
-
-abbrev pub valuesIn : List ℕ → Parameters
-valuesIn text = parametersOf (partAt text (parametersAt text))
-
-abbrev pub newSeed : List ℕ → List ℕ
-newSeed text = seedPart text (seedStart (parametersAt text) (valuesIn text)) (valuesIn text .len)
-
--- It is extended, and of an `init` type.
-abbrev pub isRenewal : List ℕ → Bool
-isRenewal text = not (isPlain text) && isInit (typeOf text)
 
 -- "an extended reply, of at most 256 bytes", 30; "34 unknown type, 35 a missing or extra part, both after 30": there is a colon between two parts.
 abbrev pub layoutRows : List ℕ → List Row
@@ -207,12 +193,9 @@ passwordRows text =
     cond (isPlain text) (replyRows text)
     (cond (isInit (typeOf text)) (partRows (typeOf text) (partAt text (newAt text))) [] ++ partRows (typeOf text) (partAt text (presentAt text)))
 
--- All of these, with such rows for the parameters between them.
-abbrev pub saidRows : (ℕ → ℕ → List ℕ → List Row) → List ℕ → List Row
-saidRows rows text =
-    layoutRows text
-    ++ cond (isRenewal text) (rows (valuesIn text .algorithm) (valuesIn text .count) (newSeed text)) []
-    ++ passwordRows text
+-- All of these; R-7: "Of the parameters it refuses nothing".
+abbrev pub textRows : List ℕ → List Row
+textRows text = layoutRows text ++ passwordRows text
 
 -- The writer of extended replies: 34 for "a type that isn't one of the four", by number, "then for `init` types 51, 21, 23, 24".
 abbrev pub extendedRows : ℕ → ℕ → ℕ → List ℕ → List Row
@@ -222,7 +205,7 @@ extendedRows type number count seed =
 
 -- ---- the table's calls, in tables that calls make
 
--- Challenge, Reply and Renew: "55, 59, 60, 58". 55: "port over 3"; 58: "account used up: stored count 1".
+-- Challenge and Offer: "55, 59, 60, 58". 55: "port over 3"; 58: "account used up: stored count 1".
 abbrev pub turnRows : ℕ → State → List Row
 turnRows port s =
     (55, ltb 3 port) ∷
@@ -265,13 +248,11 @@ conditionsOf (Call.Leave port) s =
 conditionsOf (Call.Challenge port room) s =
     turnRows port s
     ++ roomRows room (challengeFor port s)
-conditionsOf (Call.Reply port text) s =
+conditionsOf (Call.Offer port password) s =
     turnRows port s
-    ++ saidRows (λ number count seed. valuesRows number count seed (ownAccount port s)) text
-    ++ wrongRows port (presentIn (inReply text)) s
-conditionsOf (Call.Renew port number count seed password text) s =
+    ++ wrongRows port password s
+conditionsOf (Call.OfferRenewal port number count seed new password) s =
     turnRows port s
     ++ valuesRows number count seed (ownAccount port s)
-    ++ replyRows text
-    ++ wrongRows port (passwordIn (readingOf text)) s
+    ++ wrongRows port password s
 conditionsOf Call.Tick s = []

@@ -15,15 +15,6 @@ use Rattle.text.specs.Tests.{every, both}
 use Rattle.grounds.specs.Listed.{isIn, listed}
 use Rattle.grounds.specs.Conditions.{Row, NoneHolds, FirstHolds, Exactly}
 
--- ---- rows
-
--- The refusals of rows whose numbers are at most m are at most m.
-first-at-most : (m n : ℕ) (before after : List Row) → every (λ (row : Row). leb (row .0) m) (before ++ (n, true) ∷ after) ≡ true → n ≤ m
-unfolding every
-first-at-most m n [] after h = leb-true n m (both (leb n m) (every (λ (row : Row). leb (row .0) m) after) h .0)
-first-at-most m n (row ∷ before) after h =
-    first-at-most m n before after (both (leb (row .0) m) (every (λ (r : Row). leb (r .0) m) (before ++ (n, true) ∷ after)) h .1)
-
 -- ---- the list
 
 pub refusal-listed : (why : Refusal) → isIn (listingOf why .0) listed ≡ true
@@ -140,13 +131,6 @@ module _ (check : Checked) (rows : List Row) (f : Follows check rows) where
   pub refused-first : (why : Refusal) → check ≡ Checked.Refused why → FirstHolds (listedAs why) rows
   unfolding Follows
   refused-first why e = first-holds (listedAs why) rows (λ rest. sym (f rest) ∙ ap (λ (c : Checked). unless listedAs c rest) e)
-
-  -- So its number is no larger than theirs.
-  pub refused-at-most : (m : ℕ) → every (λ (row : Row). leb (row .0) m) rows ≡ true → (why : Refusal) → check ≡ Checked.Refused why → listedAs why ≤ m
-  refused-at-most m h why e =
-      let first = refused-first why e in
-      first-at-most m (listedAs why) (first .before) (first .after)
-      (subst (λ (l : List Row). every (λ (row : Row). leb (row .0) m) l ≡ true) (first .parted) h)
 
   pub first-refused : (n : ℕ) → FirstHolds n rows → (why : Refusal) × (check ≡ Checked.Refused why) × (listedAs why ≡ n)
   unfolding Follows

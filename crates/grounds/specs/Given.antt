@@ -23,11 +23,10 @@ use Rattle.sixwords.specs.Places as Places
 use Rattle.text.specs.Counts.{isCount}
 use Rattle.challenge.specs.Challenges.{opening, tokenAt, nextAt, countAt, seedAt, challengeOf}
 use Rattle.text.specs.Tests.{same}
-use Rattle.hex.specs.Hex.{hexOf}
 use Rattle.hex.specs.Hex.{sixteenDigits, hexReading}
 use Rattle.reply.specs.Reply.{isWord, sixWords, marksOf, foundReading, readingOf}
 use Rattle.extended.specs.ReplyTypes.{typeName}
-use Rattle.extended.specs.ReplyTexts.{partAt, colons, layoutChecked, extendedOf, replyTextOf}
+use Rattle.extended.specs.ReplyTexts.{partAt, colons, layoutChecked, extendedOf, saidIn, replyTextOf}
 use Rattle.cards.specs.CardChecks.{cardChecked}
 use Rattle.cards.specs.Cards.{cardWritten}
 use Rattle.line.specs.Line.{some, others, turnWithout, left}
@@ -44,14 +43,10 @@ use Rattle.table.specs.Steps.{
   leave,
   turnChecked,
   challenge,
-  offered,
-  loginRead,
+  compared,
+  offer,
   renewChecked,
-  renewRead,
-  renewal,
-  renew,
-  replyBy,
-  reply,
+  offerRenewal,
 }
 use Rattle.reached.specs.Calls.{Call, run}
 use Rattle.grounds.specs.Listed.{listed, callNumber, Given}
@@ -91,10 +86,10 @@ challenge-given = (
   ),
 )
 
--- 30 to 33: the plain reply's reader
+-- 30 to 33: the reader of replies, of plain ones
 reply-given : Each Given (30 ∷ 31 ∷ 32 ∷ 33 ∷ [])
-unfolding readingOf sixWords isWord marksOf foundReading sixteenDigits hexReading every parted unspaced Digits.numberAfter codes wordsIn
-    lines words flatten same Dictionary.standsFrom Dictionary.placeOf pairs pairSum Places.joined allPlaces numberOf
+unfolding replyTextOf saidIn colons readingOf sixWords isWord marksOf foundReading sixteenDigits hexReading every parted unspaced Digits.numberAfter codes
+    wordsIn lines words flatten same Dictionary.standsFrom Dictionary.placeOf pairs pairSum Places.joined allPlaces numberOf
 reply-given = (
   Given.reply (replicate 129 97) refl,
   (
@@ -119,24 +114,20 @@ eight = 0 ∷ 1 ∷ 2 ∷ 3 ∷ 4 ∷ 5 ∷ 6 ∷ 7 ∷ []
 abbrev pub enrolled : Call
 enrolled = Call.Enrol 1 1 2 (codes "a") (bytesOf (hash Algorithm.Md5 (bytesOf 0)))
 
--- Port 0 joins for it, and then replies.
+-- Port 0 joins for it, and then offers a password.
 abbrev pub joins : Call
 joins = Call.Join 0 1
 
 abbrev pub right : Call
-right = Call.Reply 0 (hexOf 0)
+right = Call.Offer 0 0
 
 abbrev pub wrong : Call
-wrong = Call.Reply 0 (hexOf 1)
+wrong = Call.Offer 0 1
 
--- 34 and 35: a reply in the turn, of another type and without its parts
+-- 34 and 35: an extended reply of another type, and one without its parts
 extended-given : Each Given (34 ∷ 35 ∷ [])
-unfolding callNumber codes plain same run enrol enrolChecked joinChecked Steps.joins join turnChecked replyBy reply replyTextOf extendedOf layoutChecked
-    partAt colons typeName runOf some placeOf inLines standsAt every
-extended-given = (
-  Given.call (enrolled ∷ joins ∷ []) (Call.Reply 0 (codes "HEX:")) refl,
-  (Given.call (enrolled ∷ joins ∷ []) (Call.Reply 0 (codes "init-hex:")) refl, tt),
-)
+unfolding codes same replyTextOf saidIn extendedOf layoutChecked partAt colons typeName runOf
+extended-given = (Given.reply (codes "HEX:") refl, (Given.reply (codes "init-hex:") refl, tt))
 
 abbrev pub thirtyTwo : List Call
 thirtyTwo = map (λ id. Call.Enrol id 1 2 (codes "a") eight) (upTo 32 (λ k. suc k))
@@ -144,8 +135,7 @@ thirtyTwo = map (λ id. Call.Enrol id 1 2 (codes "a") eight) (upTo 32 (λ k. suc
 -- 50 to 63: the table
 table-given : Each Given (50 ∷ 51 ∷ 52 ∷ 53 ∷ 54 ∷ 55 ∷ 56 ∷ 57 ∷ 58 ∷ 59 ∷ 60 ∷ 61 ∷ 62 ∷ 63 ∷ [])
 unfolding callNumber codes plain same isOneOf run enrol enrolChecked remove joinChecked Steps.joins join leaveChecked leave turnChecked challenge
-    offered loginRead replyBy reply renewChecked renewRead renewal renew replyTextOf colons some others turnWithout left placeOf inLines standsAt
-    readingOf sixWords isWord sixteenDigits hexReading every parted unspaced digitsOf Digits.numberAfter hash fold numberAfter md5 registers absorbed
+    compared offer renewChecked offerRenewal some others turnWithout left placeOf inLines standsAt every hash fold numberAfter md5 registers absorbed
     compressed rounds performed operation round1 round2 round3 round4 blockAt paddedWord paddedByte upTo
 table-given = (
   Given.call [] (Call.Enrol 0 1 2 (codes "a") eight) refl,
@@ -173,7 +163,7 @@ table-given = (
                         Given.call (enrolled ∷ joins ∷ []) wrong refl,
                         (
                           Given.call (enrolled ∷ joins ∷ wrong ∷ joins ∷ wrong ∷ joins ∷ []) wrong refl,
-                          (Given.call (enrolled ∷ joins ∷ []) (Call.Renew 0 1 9 (codes "A") eight (hexOf 0)) refl, tt),
+                          (Given.call (enrolled ∷ joins ∷ []) (Call.OfferRenewal 0 1 9 (codes "A") 7 0) refl, tt),
                         ),
                       ),
                     ),

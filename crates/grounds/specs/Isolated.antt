@@ -53,14 +53,14 @@ use Rattle.table.specs.Steps.{
   join,
   leaveChecked,
   leave,
-  offered,
+  compared,
   tick,
 }
 use Rattle.table.specs.StepLaws.{enrol-passed}
 use Rattle.reached.specs.Calls.{Call, Answer, after, answer, repliedAnswer}
 use Rattle.reached.specs.InTurn.{madeBy, joinsFor, elsewhere}
-use Rattle.reached.specs.Presented.{Presented, Presents, tableChecked, textChecked, presentIn, nextOf, presents}
-use Rattle.reached.specs.PresentedLaws.{next-id, call-presents}
+use Rattle.reached.specs.Offered.{Offered, Offers, offerChecked, presentIn, nextOf, offers}
+use Rattle.reached.specs.OfferedLaws.{next-id, call-offers}
 use Rattle.reached.specs.Day.{WrongReply}
 use Rattle.reached.specs.Made.{Made}
 use Rattle.reached.specs.RoomsFound.{apart-once}
@@ -127,8 +127,8 @@ out-elsewhere s i port out c own other = by c own other
     by (Call.Join q id) e f = ap not f
     by (Call.Leave q) e f = another q e
     by (Call.Challenge q room) e f = refl
-    by (Call.Reply q text) e f = another q e
-    by (Call.Renew q number count seed password text) e f = another q e
+    by (Call.Offer q password) e f = another q e
+    by (Call.OfferRenewal q number count seed new password) e f = another q e
     by Call.Tick e f = absurd (true≢false (sym e))
 
 -- A port that waits in another line changes nothing of this one whatever it calls: its Join is refused.
@@ -150,8 +150,9 @@ waiting-stays s i port there e out c own = by c own (out-elsewhere s i port out 
     by (Call.Join q id) f g = ap (heldOf i) (waiting-join q id s (ap (λ (n : ℕ). waits n s) (eqb-true q port f) ∙ e))
     by (Call.Leave q) f g = call-elsewhere s i there (Call.Leave q) (g refl)
     by (Call.Challenge q room) f g = refl
-    by (Call.Reply q text) f g = call-elsewhere s i there (Call.Reply q text) (g refl)
-    by (Call.Renew q number count seed password text) f g = call-elsewhere s i there (Call.Renew q number count seed password text) (g refl)
+    by (Call.Offer q password) f g = call-elsewhere s i there (Call.Offer q password) (g refl)
+    by (Call.OfferRenewal q number count seed new password) f g =
+        call-elsewhere s i there (Call.OfferRenewal q number count seed new password) (g refl)
     by Call.Tick f g = absurd (true≢false (sym f))
 
 -- ---- what does change them
@@ -292,39 +293,39 @@ pub leave-held : (p i : ℕ) (s : State) → leave p s .answer ≡ Checked.Good
 unfolding leave
 leave-held p i s e = ap (heldOf i) (settled-done s (Steps.leaves p s) (leaveChecked p s) e .1) ∙ left-held i s p
 
--- A wrong reply, 61 or 62, of Reply or Renew: so does the port leave then.
+-- A wrong reply, 61 or 62, of an offer: so does the port leave then.
 pub wrong-held : (why : Refusal) (c : Call) (s : State) (w : WrongReply why c s) (i : ℕ)
     → heldOf i (after c s) ≡ record { account = accountOf i s; line = Line.left (w .port) (lineOf i s) }
 wrong-held why c s w i = ap (heldOf i) (w .changed) ∙ left-held i s (w .port)
 
 -- An accepted reply or renewal: the port is out of the account's line, if it was in it.
 module _ (port n : ℕ) (s : State) (i : ℕ) where
-  -- A password is offered and taken.
-  offered-left : (w : ℕ) (next : Room) → next .id ≡ ownAccount port s .id → repliedAnswer (offered port w next s .answer) ≡ Answer.Count n
-      → lineOf i (offered port w next s .state) ≡ Line.left port (lineOf i s)
-  unfolding offered
-  offered-left w next same = by (eqb (hash (ownAccount port s .algorithm) (bytesOf w)) (ownAccount port s .password))
+  -- A password is compared and taken.
+  compared-left : (w : ℕ) (next : Room) → next .id ≡ ownAccount port s .id → repliedAnswer (compared port w next s .answer) ≡ Answer.Count n
+      → lineOf i (compared port w next s .state) ≡ Line.left port (lineOf i s)
+  unfolding compared
+  compared-left w next same = by (eqb (hash (ownAccount port s .algorithm) (bytesOf w)) (ownAccount port s .password))
     where
       by : (t : Bool) → repliedAnswer (cond t (Steps.accepted port next s) (Steps.rejected port s) .answer) ≡ Answer.Count n
           → lineOf i (cond t (Steps.accepted port next s) (Steps.rejected port s) .state) ≡ Line.left port (lineOf i s)
       by true e = accepted-line i s port next same
       by false e = let z : _≡_ {A = ℕ} 0 1 = cc in absurd (omega arith)
 
-  -- It is what was presented, behind checks.
-  presents-left : (what : Presented) → repliedAnswer (presents port what s .answer) ≡ Answer.Count n
-      → lineOf i (presents port what s .state) ≡ Line.left port (lineOf i s)
-  unfolding presents
-  presents-left what = by (unless Checked.Refused (tableChecked port what s) (textChecked what))
+  -- It is what was offered, behind checks.
+  offers-left : (what : Offered) → repliedAnswer (offers port what s .answer) ≡ Answer.Count n
+      → lineOf i (offers port what s .state) ≡ Line.left port (lineOf i s)
+  unfolding offers
+  offers-left what = by (offerChecked port what s)
     where
       by : (k : Checked)
-          → repliedAnswer (unless (replyRefused s) k (offered port (presentIn what) (nextOf what (ownAccount port s)) s) .answer) ≡ Answer.Count n
-          → lineOf i (unless (replyRefused s) k (offered port (presentIn what) (nextOf what (ownAccount port s)) s) .state) ≡ Line.left port (lineOf i s)
+          → repliedAnswer (unless (replyRefused s) k (compared port (presentIn what) (nextOf what (ownAccount port s)) s) .answer) ≡ Answer.Count n
+          → lineOf i (unless (replyRefused s) k (compared port (presentIn what) (nextOf what (ownAccount port s)) s) .state) ≡ Line.left port (lineOf i s)
       by (Checked.Refused why) e = let z : _≡_ {A = ℕ} 0 1 = cc in absurd (omega arith)
-      by Checked.Good e = offered-left (presentIn what) (nextOf what (ownAccount port s)) (next-id what (ownAccount port s)) e
+      by Checked.Good e = compared-left (presentIn what) (nextOf what (ownAccount port s)) (next-id what (ownAccount port s)) e
 
--- Of Reply and Renew.
-pub accepted-left : (port n : ℕ) (what : Presented) (c : Call) (s : State) → Presents port what c → answer c s ≡ Answer.Count n → (i : ℕ)
+-- Of the call.
+pub accepted-left : (port n : ℕ) (what : Offered) (c : Call) (s : State) → Offers port what c → answer c s ≡ Answer.Count n → (i : ℕ)
     → lineOf i (after c s) ≡ Line.left port (lineOf i s)
 accepted-left port n what c s p e i =
-    let did = call-presents port what c s p in
-    ap (lineOf i) (did .1) ∙ presents-left port n s i what (sym (did .0) ∙ e)
+    let did = call-offers port what c s p in
+    ap (lineOf i) (did .1) ∙ offers-left port n s i what (sym (did .0) ∙ e)

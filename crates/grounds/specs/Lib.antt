@@ -16,7 +16,7 @@ pub mod Isolated
 pub mod PlainTexts
 pub mod Replies
 pub mod Answering
-pub mod ExtendedCalls
+pub mod TextsOffered
 pub mod Exactly
 pub mod Refusing
 pub mod RefusingCalls

@@ -14,7 +14,8 @@ use Rattle.block.specs.Digest.{digestOf}
 use Rattle.password.specs.declared.algorithm.Algorithm.{Algorithm}
 use Rattle.password.specs.Password.{digestBy, generated}
 use Rattle.challenge.specs.Challenges.{challengeOf, challengeNumbers}
-use Rattle.reply.specs.Reply.{readingOf}
+use Rattle.extended.specs.declared.reply_texts.ReplyText.{ReplyText}
+use Rattle.extended.specs.ReplyTexts.{replyTextOf, replyNumbers}
 use Rattle.hex.specs.Hex.{hexOf}
 use Rattle.cards.specs.Cards.{cardWritten}
 use Rattle.table.specs.Table.{fresh}
@@ -39,6 +40,9 @@ readNumber reading = readingNumbers reading .0 .0
 abbrev pub writtenNumber : Written → ℕ
 writtenNumber written = writtenNumbers written .0 .0
 
+abbrev pub replyNumber : ReplyText → ℕ
+replyNumber reply = replyNumbers reply .0 .0
+
 abbrev pub challengeNumber : Challenge → ℕ
 challengeNumber challenge = challengeNumbers challenge .0 .0
 
@@ -46,13 +50,13 @@ challengeNumber challenge = challengeNumbers challenge .0 .0
 unfoldable pub callNumber : List Call → Call → ℕ
 callNumber before c = numbers (answer c (run before fresh)) .0 .0
 
--- The number n is the answer of some call: of the generator, the digest, the challenge reader, the plain reply's reader, the hex writer, the
+-- The number n is the answer of some call: of the generator, the digest, the challenge reader, the reply's reader, the hex writer, the
 -- card writer, or the table.
 pub data Given (n : ℕ) : Type 0 where
   generator : (number : ℕ) (phrase seed : List ℕ) (count : ℕ) → readNumber (generated number phrase seed count) ≡ n → Given n
   digest : (algorithm : Algorithm) (m : List ℕ) (room : ℕ) → writtenNumber (digestOf (digestBy algorithm) m room) ≡ n → Given n
   challenge : (text : List ℕ) → challengeNumber (challengeOf text) ≡ n → Given n
-  reply : (text : List ℕ) → readNumber (readingOf text) ≡ n → Given n
+  reply : (text : List ℕ) → replyNumber (replyTextOf text) ≡ n → Given n
   hex : (p room : ℕ) → writtenNumber (writtenOf room (hexOf p)) ≡ n → Given n
   card : (phrase text : List ℕ) (k room : ℕ) → writtenNumber (cardWritten phrase text k room) ≡ n → Given n
   call : (before : List Call) (c : Call) → callNumber before c ≡ n → Given n

@@ -20,7 +20,7 @@ use Rattle.accounts.specs.Rooms.{Room, remembered}
 use Rattle.accounts.specs.Accounts.{isOneOf, valuesChecked}
 use Rattle.table.specs.Table.{State, waits, ownAccount, hasTurn}
 use Rattle.table.specs.Steps.{turnChecked}
-use Rattle.reached.specs.Presented.{Presented, newValuesChecked, tableChecked}
+use Rattle.reached.specs.Offered.{Offered, newValuesChecked, offerChecked}
 use Rattle.grounds.specs.Listed.{isIn}
 
 -- A check: a test with its refusal, or that of an algorithm or of a seed.
@@ -106,15 +106,14 @@ module _ (numbers : List ℕ) (why : Refusal) (own : isIn (listingOf why .0) num
   unfolding turnChecked
   turn-never port s h = rows-never (turnTests port s) h
 
-  values-never : (what : Presented) (old : Room) → ((number count : ℕ) (seed : List ℕ) → others numbers (valuesTests number count seed old) ≡ true)
+  values-never : (what : Offered) (old : Room) → ((number count : ℕ) (seed : List ℕ) → others numbers (valuesTests number count seed old) ≡ true)
       → Never (newValuesChecked what old)
   unfolding valuesChecked
-  values-never (Presented.Login present) old k = good-never
-  values-never (Presented.Renewal number count seed new present) old k = rows-never (valuesTests number count seed old) (k number count seed)
-  values-never (Presented.Refused w) old k = good-never
+  values-never (Offered.Login present) old k = good-never
+  values-never (Offered.Renewal number count seed new present) old k = rows-never (valuesTests number count seed old) (k number count seed)
 
-  pub table-never : (port : ℕ) (what : Presented) (s : State) → others numbers (turnTests port s) ≡ true
+  pub table-never : (port : ℕ) (what : Offered) (s : State) → others numbers (turnTests port s) ≡ true
       → ((number count : ℕ) (seed : List ℕ) → others numbers (valuesTests number count seed (ownAccount port s)) ≡ true)
-      → Never (tableChecked port what s)
+      → Never (offerChecked port what s)
   table-never port what s h k =
       then-never (turnChecked port s) (newValuesChecked what (ownAccount port s)) (turn-never port s h) (values-never what (ownAccount port s) k)

@@ -18,7 +18,7 @@ use Rattle.table.specs.Steps as Steps
 use Rattle.table.specs.Steps.{challengeFor}
 use Rattle.challenge.specs.Challenges.{challengeText}
 use Rattle.reached.specs.Calls.{Call, after, run}
-use Rattle.reached.specs.Presented.{Presented, Presents, renews}
+use Rattle.reached.specs.Offered.{Offered, Offers, renews}
 use Rattle.reached.specs.InTurn.{quiet, keepsAlgorithm, hasTurnFor, HasTurn}
 use Rattle.reached.specs.SeedsHad.{keepsAccount}
 use Rattle.reached.specs.SeedLaws.{SeedStep}
@@ -98,8 +98,8 @@ algorithm-account i (Call.Remove id) q = q
 algorithm-account i (Call.Join port id) q = refl
 algorithm-account i (Call.Leave port) q = refl
 algorithm-account i (Call.Challenge port room) q = refl
-algorithm-account i (Call.Reply port text) q = refl
-algorithm-account i (Call.Renew port number count seed password text) q = refl
+algorithm-account i (Call.Offer port password) q = refl
+algorithm-account i (Call.OfferRenewal port number count seed new password) q = refl
 algorithm-account i Call.Tick q = refl
 
 -- The algorithm and the remembered seeds, over a call that is no renewal and doesn't remove the account; on any table.
@@ -120,26 +120,26 @@ call-steps-seeds s i h c q =
       did .1,
     )
 
--- A call that presents something removes no account, and is quiet for every other port; it keeps the algorithm unless it is a renewal.
-presents-keeps : (p q i : ℕ) (what : Presented) (c : Call) → Presents p what c → (keepsAccount i c ≡ true) × (quiet q i c ≡ not (eqb p q))
-presents-keeps p q i what c (Presents.by-reply text) = (refl, refl)
-presents-keeps p q i what c (Presents.by-renew number count seed new text) = (refl, refl)
+-- A call that offers something removes no account, and is quiet for every other port; it keeps the algorithm unless it is a renewal.
+offers-keeps : (p q i : ℕ) (what : Offered) (c : Call) → Offers p what c → (keepsAccount i c ≡ true) × (quiet q i c ≡ not (eqb p q))
+offers-keeps p q i what c (Offers.by-offer password) = (refl, refl)
+offers-keeps p q i what c (Offers.by-renewal number count seed new password) = (refl, refl)
 
-pub login-keeps : (p i : ℕ) (what : Presented) (c : Call) → Presents p what c → renews what ≡ false → keepsAlgorithm i c ≡ true
-login-keeps p i what c (Presents.by-reply text) e = ap not e
-login-keeps p i what c (Presents.by-renew number count seed new text) e = absurd (true≢false e)
+pub login-keeps : (p i : ℕ) (what : Offered) (c : Call) → Offers p what c → renews what ≡ false → keepsAlgorithm i c ≡ true
+login-keeps p i what c (Offers.by-offer password) e = refl
+login-keeps p i what c (Offers.by-renewal number count seed new password) e = absurd (true≢false e)
 
 -- The whole account, over a reply or a renewal by a port that hasn't the turn for it; on any table.
-pub other-port-keeps : (p i : ℕ) (what : Presented) (c : Call) (s : State) → Presents p what c → isThere i s ≡ true → hasTurnFor p i s ≡ false
+pub other-port-keeps : (p i : ℕ) (what : Offered) (c : Call) (s : State) → Offers p what c → isThere i s ≡ true → hasTurnFor p i s ≡ false
     → accountOf i (after c s) ≡ accountOf i s
 other-port-keeps p i what c s own h f =
-    account-after c s i h (λ (room : Room). room ≡ accountOf i s) refl (λ id n k e. eqb-false id i (k i (presents-keeps p p i what c own .0)) e)
+    account-after c s i h (λ (room : Room). room ≡ accountOf i s) refl (λ id n k e. eqb-false id i (k i (offers-keeps p p i what c own .0)) e)
     (λ port next n t e k x. absurd (none port n t)) (outcome c s)
   where
     none : (port : ℕ) → Outcome.NotBy c port → HasTurn port i s → ⊥
     none port n t =
         cases (eqb p port) (λ e. true≢false (sym t ∙ ap (λ (q : ℕ). hasTurnFor q i s) (sym (eqb-true p port e)) ∙ f))
-        (λ e. eqb-false port port (n port i (presents-keeps p port i what c own .1 ∙ ap not e)) refl)
+        (λ e. eqb-false port port (n port i (offers-keeps p port i what c own .1 ∙ ap not e)) refl)
 
 -- The whole account, over a quiet call in the turn.
 pub call-keeps : (p i : ℕ) (s : State) → Made s → HasTurn p i s → (c : Call) → quiet p i c ≡ true → accountOf i (after c s) ≡ accountOf i s

@@ -46,9 +46,13 @@ use Rattle.extended.specs.ReplyTexts.{
   passwordBy,
   renewalIn,
   typedIn,
+  Said,
   layoutChecked,
   extendedOf,
+  saidIn,
+  readTo,
   replyTextOf,
+  textChecked,
 }
 use Rattle.extended.specs.ReplyWriting.{renewalChecked, textByNumbers, extendedWritten}
 use Rattle.challenge.specs.declared.reading.Challenge.{Challenge}
@@ -70,8 +74,7 @@ use Rattle.accounts.specs.Rooms.{Room, remembered}
 use Rattle.accounts.specs.Accounts.{countWithin, isOneOf, seedOther, newChecked, valuesChecked}
 use Rattle.refusal.specs.Numbers.{checkedNumbers}
 use Rattle.reached.specs.Calls.{Answer, writtenAnswer, numbers}
-use Rattle.reached.specs.Presented.{Presented, presentedIn, inReply, newValuesChecked, textChecked}
-use Rattle.grounds.specs.Listed.{readNumber, writtenNumber, challengeNumber}
+use Rattle.grounds.specs.Listed.{readNumber, writtenNumber, replyNumber, challengeNumber}
 use Rattle.grounds.specs.Conditions.{
   Row,
   Exactly,
@@ -92,10 +95,8 @@ use Rattle.grounds.specs.Conditions.{
   isPlain,
   isType,
   typeOf,
-  valuesIn,
-  newSeed,
   partRows,
-  saidRows,
+  textRows,
   extendedRows,
   cardRows,
 }
@@ -377,7 +378,7 @@ hex-rows s rest = go (sixteenDigits s)
 pub hex-reader-exactly : (s : List ℕ) → Exactly (readNumber (hexReading s)) ((33, not (sixteenDigits s)) ∷ [])
 hex-reader-exactly s = read-exactly (hexReading s) _ (hex-rows s)
 
-pub reply-rows : (text : List ℕ) → Follows (readChecked (readingOf text)) (replyRows text)
+reply-rows : (text : List ℕ) → Follows (readChecked (readingOf text)) (replyRows text)
 unfolding Follows readingOf
 reply-rows text rest = go (ltb 128 (length text)) (sixWords (tokens text)) refl
   where
@@ -395,7 +396,7 @@ reply-rows text rest = go (ltb 128 (length text)) (sixWords (tokens text)) refl
 pub reply-exactly : (text : List ℕ) → Exactly (readNumber (readingOf text)) (replyRows text)
 reply-exactly text = read-exactly (readingOf text) (replyRows text) (reply-rows text)
 
--- ---- R-6: the text of a reply, plain or extended
+-- ---- R-6 and R-7: reading the text of a reply, plain or extended
 
 six-rows : (text : List ℕ) → Follows (readChecked (sixReading text)) (wordRows text ++ (33, not (sixWords (tokens text))) ∷ [])
 unfolding Follows sixReading
@@ -445,74 +446,67 @@ layout-rows text =
     (type-rows (λ (kind : ReplyType). same (partAt text 0) (typeName kind)))
     (λ b. then-test (eqb (colons text) (colonsOf (typeOf text))) _ Refusal.PartsWrong _ _ refl (λ c. no-rows Checked.Good refl)))
 
--- A check of what is presented, which looks at new values by rows of their own.
-module _ (check : Presented → Checked) (rows : ℕ → ℕ → List ℕ → List Row)
-    (login : (present : Reading) → check (Presented.Login present) ≡ readChecked present)
-    (refused : (why : Refusal) → check (Presented.Refused why) ≡ Checked.Refused why)
-    (renewal : (number count : ℕ) (seed : List ℕ) (new present : Reading) (a b : List Row) → Follows (readChecked new) a → Follows (readChecked present) b
-    → Follows (check (Presented.Renewal number count seed new present)) (rows number count seed ++ (a ++ b)))
+-- A login is refused as its password is.
+as-login : (r : Reading) → readChecked r ≡ textChecked (readTo (Said.Login r))
+as-login (Reading.Password p) = refl
+as-login (Reading.Refused why) = refl
+
+-- What a text says is refused with, once it is laid out: the new password, then the present one.
+typed-rows : (kind : ReplyType) (text : List ℕ)
+    → Follows (textChecked (readTo (typedIn kind text)))
+    (cond (isInit kind) (partRows kind (partAt text (newAt text))) [] ++ partRows kind (partAt text (presentAt text)))
+unfolding typedIn renewalIn
+typed-rows kind text = go (isInit kind)
   where
-    typed-rows : (kind : ReplyType) (text : List ℕ)
-        → Follows (check (presentedIn text (typedIn kind text)))
-        (cond (isInit kind) (rows (valuesIn text .algorithm) (valuesIn text .count) (newSeed text)) []
-        ++ (cond (isInit kind) (partRows kind (partAt text (newAt text))) [] ++ partRows kind (partAt text (presentAt text))))
-    unfolding typedIn renewalIn
-    typed-rows kind text = go (isInit kind)
-      where
-        new : Reading
-        new = passwordBy kind (partAt text (newAt text))
+    new : Reading
+    new = passwordBy kind (partAt text (newAt text))
 
-        present : Reading
-        present = passwordBy kind (partAt text (presentAt text))
+    present : Reading
+    present = passwordBy kind (partAt text (presentAt text))
 
-        go : (b : Bool) → Follows (check (presentedIn text (cond b (renewalIn kind text) (ReplyText.Login present))))
-            (cond b (rows (valuesIn text .algorithm) (valuesIn text .count) (newSeed text)) []
-            ++ (cond b (partRows kind (partAt text (newAt text))) [] ++ partRows kind (partAt text (presentAt text))))
-        go true = renewal _ _ _ new present _ _ (part-rows kind (partAt text (newAt text))) (part-rows kind (partAt text (presentAt text)))
-        go false =
-            subst (λ (c : Checked). Follows c (partRows kind (partAt text (presentAt text)))) (sym (login present))
-            (part-rows kind (partAt text (presentAt text)))
+    as-renewal : (number count start len : ℕ) (n p : Reading)
+        → unless Checked.Refused (readChecked n) (readChecked p) ≡ textChecked (readTo (Said.Renewal number count start len n p))
+    as-renewal number count start len (Reading.Password n) (Reading.Password p) = refl
+    as-renewal number count start len (Reading.Password n) (Reading.Refused why) = refl
+    as-renewal number count start len (Reading.Refused why) p = refl
 
-    extended-rows : (text : List ℕ) → Follows (check (presentedIn text (extendedOf text)))
-        (((30, ltb 256 (length text)) ∷ (34, not (isType (partAt text 0))) ∷ (35, not (eqb (colons text) (colonsOf (typeOf text)))) ∷ [])
-        ++ (cond (isInit (typeOf text)) (rows (valuesIn text .algorithm) (valuesIn text .count) (newSeed text)) []
-        ++ (cond (isInit (typeOf text)) (partRows (typeOf text) (partAt text (newAt text))) [] ++ partRows (typeOf text) (partAt text (presentAt text)))))
-    unfolding extendedOf
-    extended-rows text =
-        behind (λ (r : ReplyText). check (presentedIn text r)) ReplyText.Refused refused (layoutChecked text) (typedIn (typeOf text) text) _ _
-        (layout-rows text) (λ e. typed-rows (typeOf text) text)
+    go : (b : Bool) → Follows (textChecked (readTo (cond b (renewalIn kind text) (Said.Login present))))
+        (cond b (partRows kind (partAt text (newAt text))) [] ++ partRows kind (partAt text (presentAt text)))
+    go true =
+        subst (λ (c : Checked). Follows c (partRows kind (partAt text (newAt text)) ++ partRows kind (partAt text (presentAt text))))
+        (as-renewal _ _ _ _ new present)
+        (then-check (readChecked new) (readChecked present) _ _ (part-rows kind (partAt text (newAt text)))
+        (λ e. part-rows kind (partAt text (presentAt text))))
+    go false =
+        subst (λ (c : Checked). Follows c (partRows kind (partAt text (presentAt text)))) (as-login present) (part-rows kind (partAt text (presentAt text)))
 
-    said-rows : (text : List ℕ) → Follows (check (inReply text)) (saidRows rows text)
-    unfolding Follows replyTextOf
-    said-rows text = go (isPlain text)
-      where
-        go : (b : Bool) → Follows (check (presentedIn text (cond b (ReplyText.Login (readingOf text)) (extendedOf text))))
-            ((30, not b && ltb 256 (length text)) ∷ (34, not b && not (isType (partAt text 0)))
-            ∷ (35, not b && not (eqb (colons text) (colonsOf (typeOf text))))
-            ∷ (cond (not b && isInit (typeOf text)) (rows (valuesIn text .algorithm) (valuesIn text .count) (newSeed text)) []
-            ++ cond b (replyRows text) (cond (isInit (typeOf text)) (partRows (typeOf text) (partAt text (newAt text))) []
-            ++ partRows (typeOf text) (partAt text (presentAt text)))))
-        go true = subst (λ (c : Checked). Follows c (replyRows text)) (sym (login (readingOf text))) (reply-rows text)
-        go false = extended-rows text
+extended-rows : (text : List ℕ) → Follows (textChecked (readTo (extendedOf text)))
+    (((30, ltb 256 (length text)) ∷ (34, not (isType (partAt text 0))) ∷ (35, not (eqb (colons text) (colonsOf (typeOf text)))) ∷ [])
+    ++ (cond (isInit (typeOf text)) (partRows (typeOf text) (partAt text (newAt text))) [] ++ partRows (typeOf text) (partAt text (presentAt text))))
+unfolding extendedOf
+extended-rows text =
+    behind (λ (said : Said). textChecked (readTo said)) Said.Refused (λ why. refl) (layoutChecked text) (typedIn (typeOf text) text) _ _
+    (layout-rows text) (λ e. typed-rows (typeOf text) text)
 
--- The text by itself: of the parameters nothing is refused.
-pub text-rows : (text : List ℕ) → Follows (textChecked (inReply text)) (saidRows (λ number count seed. []) text)
-text-rows =
-    said-rows textChecked (λ number count seed. []) (λ present. refl) (λ why. refl)
-    (λ number count seed new present a b f g. then-check (readChecked new) (readChecked present) a b f (λ e. g))
+text-rows : (text : List ℕ) → Follows (textChecked (replyTextOf text)) (textRows text)
+unfolding Follows replyTextOf saidIn
+text-rows text = go (isPlain text)
+  where
+    go : (b : Bool) → Follows (textChecked (readTo (cond b (Said.Login (readingOf text)) (extendedOf text))))
+        ((30, not b && ltb 256 (length text)) ∷ (34, not b && not (isType (partAt text 0)))
+        ∷ (35, not b && not (eqb (colons text) (colonsOf (typeOf text))))
+        ∷ cond b (replyRows text) (cond (isInit (typeOf text)) (partRows (typeOf text) (partAt text (newAt text))) []
+        ++ partRows (typeOf text) (partAt text (presentAt text))))
+    go true = subst (λ (c : Checked). Follows c (replyRows text)) (as-login (readingOf text)) (reply-rows text)
+    go false = extended-rows text
 
-pub text-exactly : (text : List ℕ) → Exactly (checkedNumbers (textChecked (inReply text)) .0) (saidRows (λ number count seed. []) text)
-text-exactly text = checked-exactly (textChecked (inReply text)) (saidRows (λ number count seed. []) text) (text-rows text)
-
--- And with the checks of new values for an account.
-pub presented-rows : (old : Room) (text : List ℕ)
-    → Follows (unless Checked.Refused (newValuesChecked (inReply text) old) (textChecked (inReply text)))
-    (saidRows (λ number count seed. valuesRows number count seed old) text)
-presented-rows old =
-    said-rows (λ what. unless Checked.Refused (newValuesChecked what old) (textChecked what)) (λ number count seed. valuesRows number count seed old)
-    (λ present. refl) (λ why. refl)
-    (λ number count seed new present a b f g. then-check (valuesChecked number count seed old) _ (valuesRows number count seed old) (a ++ b)
-    (values-rows number count seed old) (λ d. then-check (readChecked new) (readChecked present) a b f (λ e. g)))
+pub text-exactly : (text : List ℕ) → Exactly (replyNumber (replyTextOf text)) (textRows text)
+text-exactly text = by (replyTextOf text) (text-rows text)
+  where
+    by : (r : ReplyText) → Follows (textChecked r) (textRows text) → Exactly (replyNumber r) (textRows text)
+    by (ReplyText.Login password) f = exactly Checked.Good (textRows text) f 0 refl
+    by (ReplyText.Renewal number count start len new present) f = exactly Checked.Good (textRows text) f 0 refl
+    by (ReplyText.Refused why) f = exactly (Checked.Refused why) (textRows text) f (listedAs why) refl
 
 -- The writer.
 pub extended-writer-exactly : (type password number count : ℕ) (seed : List ℕ) (new room : ℕ)

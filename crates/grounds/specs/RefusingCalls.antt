@@ -20,20 +20,19 @@ use Rattle.password.specs.Password.{bytesOf, hash}
 use Rattle.challenge.specs.Challenges.{challengeWrittenBy}
 use Rattle.port.specs.declared.Port.{Port}
 use Rattle.accounts.specs.Rooms.{Room}
-use Rattle.accounts.specs.Accounts.{valuesChecked}
 use Rattle.table.specs.declared.Replied.{Replied}
 use Rattle.table.specs.Table.{State, Held, freshPort, holds, isThere, accountOf, portOf, standsAt, waits, ownAccount, hasTurn}
 use Rattle.table.specs.TableChecks.{accountHeld}
 use Rattle.table.specs.Steps as Steps
-use Rattle.table.specs.Steps.{After, refused, replyRefused, enrolChecked, joinChecked, leaveChecked, turnChecked, challengeFor, offered}
+use Rattle.table.specs.Steps.{After, refused, replyRefused, enrolChecked, joinChecked, leaveChecked, turnChecked, challengeFor, compared}
 use Rattle.reached.specs.Calls.{Call, checkedAnswer, repliedAnswer, answer, numbers}
-use Rattle.reached.specs.Presented.{Presented, inReply, inRenew, newValuesChecked, tableChecked, textChecked, presentIn, nextOf, presents}
-use Rattle.reached.specs.PresentedLaws.{reply-presents, renew-presents}
+use Rattle.reached.specs.Offered.{Offered, newValuesChecked, offerChecked, presentIn, nextOf, offers}
+use Rattle.reached.specs.OfferedLaws.{offer-offers, renewal-offers}
 use Rattle.reached.specs.Made.{Made, PortGood}
 use Rattle.reached.specs.Equal.{times, accountsIn}
 use Rattle.reached.specs.RoomsFound.{holds-times, accounts-free}
 use Rattle.reached.specs.Outcome.{turn-good}
-use Rattle.grounds.specs.Conditions.{Row, Exactly, algorithmRows, seedRows, valuesRows, replyRows, turnRows, isThird, wrongRows, conditionsOf}
+use Rattle.grounds.specs.Conditions.{Row, Exactly, algorithmRows, seedRows, valuesRows, turnRows, isThird, wrongRows, conditionsOf}
 use Rattle.grounds.specs.Exactly.{listedAs, Follows, no-rows, behind, behind-test, then-check, then-test}
 use Rattle.grounds.specs.Refusing.{
   answerChecked,
@@ -44,8 +43,6 @@ use Rattle.grounds.specs.Refusing.{
   values-rows,
   not-leb,
   room-rows,
-  reply-rows,
-  presented-rows,
 }
 use Rattle.grounds.specs.Keeps.{held-good, account-good, has-turn}
 use Rattle.grounds.specs.Answering.{seed-checked}
@@ -128,7 +125,7 @@ leave-rows port s =
     (λ a. then-test (waits port s) _ Refusal.PortNotInLine _ _ refl (λ b. no-rows Checked.Good refl)))
     (λ e. no-rows Checked.Good refl)
 
--- ---- Challenge, Reply and Renew
+-- ---- Challenge, and Offer, also of a renewal
 
 -- No port in line meets 54.
 turn-rows : (port : ℕ) (s : State) → Made s → Follows (turnChecked port s) (turnRows port s)
@@ -158,9 +155,9 @@ challenge-rows port room s m =
     let low : count ≤ 9999 = omega arith in
     rw (seed-checked seed (good .seeds .0), le-ltb 9999 count low) (room-rows room (challengeFor port s)))
 
-offered-rows : (port password : ℕ) (next : Room) (s : State) → Made s → Follows (repliedChecked (offered port password next s)) (wrongRows port password s)
-unfolding Follows offered
-offered-rows port password next s m rest =
+compared-rows : (port password : ℕ) (next : Room) (s : State) → Made s → Follows (repliedChecked (compared port password next s)) (wrongRows port password s)
+unfolding Follows compared
+compared-rows port password next s m rest =
     go (eqb (hash (ownAccount port s .algorithm) (bytesOf password)) (ownAccount port s .password)) (isThird port s)
     (third (portOf port s) (each-get PortGood (s .ports) port freshPort (m .runs) (omega arith, omega arith)))
   where
@@ -171,38 +168,29 @@ offered-rows port password next s m rest =
     go false true e = ap (λ (b : Bool). listedAs (cond b Refusal.ReplyWrongThird Refusal.ReplyWrong)) e
     go false false e = ap (λ (b : Bool). listedAs (cond b Refusal.ReplyWrongThird Refusal.ReplyWrong)) e
 
--- What is presented: the turn's rows, those of new values and texts, and of a wrong reply.
-presents-rows : (port : ℕ) (what : Presented) (rows : List Row) (s : State) → Made s
-    → Follows (unless Checked.Refused (newValuesChecked what (ownAccount port s)) (textChecked what)) rows
-    → Follows (repliedChecked (presents port what s)) (turnRows port s ++ (rows ++ wrongRows port (presentIn what) s))
-unfolding presents
-presents-rows port what rows s m f =
-    behind repliedChecked (replyRefused s) (λ why. refl) (unless Checked.Refused (tableChecked port what s) (textChecked what)) _ (turnRows port s ++ rows) _
-    (subst (λ (c : Checked). Follows c (turnRows port s ++ rows)) (nested (turnChecked port s))
-    (then-check (turnChecked port s) _ (turnRows port s) rows (turn-rows port s m) (λ e. f)))
-    (λ e. offered-rows port (presentIn what) (nextOf what (ownAccount port s)) s m)
-  where
-    nested : (turn : Checked)
-        → unless Checked.Refused turn (unless Checked.Refused (newValuesChecked what (ownAccount port s)) (textChecked what))
-        ≡ unless Checked.Refused (unless Checked.Refused turn (newValuesChecked what (ownAccount port s))) (textChecked what)
-    nested Checked.Good = refl
-    nested (Checked.Refused why) = refl
+-- What is offered: the turn's rows, those of new values, and of a wrong password.
+offers-rows : (port : ℕ) (what : Offered) (rows : List Row) (s : State) → Made s → Follows (newValuesChecked what (ownAccount port s)) rows
+    → Follows (repliedChecked (offers port what s)) (turnRows port s ++ (rows ++ wrongRows port (presentIn what) s))
+unfolding offers
+offers-rows port what rows s m f =
+    behind repliedChecked (replyRefused s) (λ why. refl) (offerChecked port what s) _ (turnRows port s ++ rows) _
+    (then-check (turnChecked port s) _ (turnRows port s) rows (turn-rows port s m) (λ e. f))
+    (λ e. compared-rows port (presentIn what) (nextOf what (ownAccount port s)) s m)
 
-call-reply-rows : (port : ℕ) (text : List ℕ) (s : State) → Made s
-    → Follows (repliedChecked (Steps.reply port text s)) (conditionsOf (Call.Reply port text) s)
-call-reply-rows port text s m =
-    subst (λ (a : After Replied). Follows (repliedChecked a) (conditionsOf (Call.Reply port text) s)) (sym (reply-presents port text s))
-    (presents-rows port (inReply text) _ s m (presented-rows (ownAccount port s) text))
+offer-rows : (port password : ℕ) (s : State) → Made s
+    → Follows (repliedChecked (Steps.offer port password s)) (conditionsOf (Call.Offer port password) s)
+offer-rows port password s m =
+    subst (λ (a : After Replied). Follows (repliedChecked a) (conditionsOf (Call.Offer port password) s)) (sym (offer-offers port password s))
+    (offers-rows port (Offered.Login password) [] s m (no-rows Checked.Good refl))
 
-renew-rows : (port number count : ℕ) (seed new text : List ℕ) (s : State) → Made s
-    → Follows (repliedChecked (Steps.renew port number count seed new text s)) (conditionsOf (Call.Renew port number count seed new text) s)
-renew-rows port number count seed new text s m =
-    let values = valuesRows number count seed (ownAccount port s) in
-    subst (λ (a : After Replied). Follows (repliedChecked a) (conditionsOf (Call.Renew port number count seed new text) s))
-    (sym (renew-presents port number count seed new text s))
-    (presents-rows port (inRenew number count seed new text) (values ++ replyRows text) s m
-    (then-check (valuesChecked number count seed (ownAccount port s)) _ values (replyRows text) (values-rows number count seed (ownAccount port s))
-    (λ e. reply-rows text)))
+renewal-rows : (port number count : ℕ) (seed : List ℕ) (new password : ℕ) (s : State) → Made s
+    → Follows (repliedChecked (Steps.offerRenewal port number count seed new password s))
+    (conditionsOf (Call.OfferRenewal port number count seed new password) s)
+renewal-rows port number count seed new password s m =
+    subst (λ (a : After Replied). Follows (repliedChecked a) (conditionsOf (Call.OfferRenewal port number count seed new password) s))
+    (sym (renewal-offers port number count seed new password s))
+    (offers-rows port (Offered.Renewal number count seed new password) (valuesRows number count seed (ownAccount port s)) s m
+    (values-rows number count seed (ownAccount port s)))
 
 -- ---- each call
 
@@ -212,8 +200,8 @@ call-rows s m (Call.Remove id) = remove-rows id s
 call-rows s m (Call.Join port id) = join-rows port id s m
 call-rows s m (Call.Leave port) = leave-rows port s
 call-rows s m (Call.Challenge port room) = challenge-rows port room s m
-call-rows s m (Call.Reply port text) = call-reply-rows port text s m
-call-rows s m (Call.Renew port number count seed new text) = renew-rows port number count seed new text s m
+call-rows s m (Call.Offer port password) = offer-rows port password s m
+call-rows s m (Call.OfferRenewal port number count seed new password) = renewal-rows port number count seed new password s m
 call-rows s m Call.Tick = no-rows Checked.Good refl
 
 pub call-exactly : (s : State) → Made s → (c : Call) → Exactly (numbers (answer c s) .0 .0) (conditionsOf c s)

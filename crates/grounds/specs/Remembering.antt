@@ -1,5 +1,5 @@
 -- R-5, call by call: when 63 is given, and what a renewal, another call and a refusal leave of the seeds that an account remembers.
-use Prim.Native.Nat.{ℕ, _≤_}
+use Prim.Native.Nat.{ℕ}
 use native.Mathlib.Omega.{arith}
 use mathlib.Core.Path.{_≡_, refl, sym, ap, ap₂, _∙_, subst}
 use mathlib.Core.Logic.{_↔_}
@@ -9,7 +9,6 @@ use lib.Dec.{leb}
 use lib.ListN.{take}
 use Rattle.refusal.specs.declared.Refusal.{Refusal}
 use Rattle.refusal.specs.declared.Checked.{Checked}
-use Rattle.refusal.specs.declared.Reading.{Reading}
 use Rattle.refusal.specs.Numbers.{listingOf}
 use Rattle.refusal.specs.Checks.{must, unless, inOrder}
 use Rattle.refusal.specs.Laws.{in-parts}
@@ -21,10 +20,10 @@ use Rattle.accounts.specs.Rooms.{Room, remembered}
 use Rattle.accounts.specs.Accounts.{countWithin, isOneOf, seedOther, valuesChecked}
 use Rattle.table.specs.declared.Replied.{Replied}
 use Rattle.table.specs.Table.{State, Held, isThere, accountOf, ownAccount}
-use Rattle.table.specs.Steps.{replyRefused, turnChecked, renewChecked, offered}
+use Rattle.table.specs.Steps.{replyRefused, turnChecked, renewChecked, compared}
 use Rattle.reached.specs.Calls.{Call, Answer, repliedAnswer, answer, after}
-use Rattle.reached.specs.Presented.{Presented, Presents, renews, textChecked, presentIn, nextOf, presents}
-use Rattle.reached.specs.PresentedLaws.{call-presents}
+use Rattle.reached.specs.Offered.{Offered, Offers, renews, presentIn, nextOf, offers}
+use Rattle.reached.specs.OfferedLaws.{call-offers}
 use Rattle.reached.specs.InTurn.{hasTurnFor, HasTurn}
 use Rattle.reached.specs.Made.{Made}
 use Rattle.reached.specs.SeedsHad.{keepsAccount, Renews, following, seedsAlong}
@@ -37,16 +36,16 @@ use Rattle.grounds.specs.Keeps.{turn-account}
 use Rattle.grounds.specs.Owned.{unrenewed-keeps, call-steps-seeds, login-keeps, other-port-keeps}
 use Rattle.grounds.specs.Replies.{call-taken, taken-account, taken-renews}
 use Rattle.grounds.specs.Answering.{taken-by-id}
-use Rattle.grounds.specs.Unchanged.{offered-other, refused-unchanged}
-use Rattle.grounds.specs.WrongReplies.{texts-to-35, wrong-reply}
+use Rattle.grounds.specs.Unchanged.{compared-other, refused-unchanged}
+use Rattle.grounds.specs.WrongReplies.{wrong-reply}
 
 -- ---- 63
 
-module _ (p number count : ℕ) (seed : List ℕ) (new present : Reading) (c : Call) (s : State)
-    (own : Presents p (Presented.Renewal number count seed new present) c)
+module _ (p number count : ℕ) (seed : List ℕ) (new present : ℕ) (c : Call) (s : State)
+    (own : Offers p (Offered.Renewal number count seed new present) c)
   where
-    abbrev what : Presented
-    what = Presented.Renewal number count seed new present
+    abbrev what : Offered
+    what = Offered.Renewal number count seed new present
 
     -- The checks before it, and then whether the seed is a remembered one.
     abbrev before : List Checked
@@ -61,25 +60,21 @@ module _ (p number count : ℕ) (seed : List ℕ) (new present : Reading) (c : C
         (rows-never (63 ∷ []) Refusal.SeedSame refl
         (test (leb 2 count && leb count 9999) Refusal.CountOutside ∷ ofAlgorithm (numbered number) ∷ ofSeed seed ∷ []) refl)
 
-    -- Neither the texts nor what is offered are refused with it, and so it is the table's checks.
-    checks-refuse : (repliedAnswer (presents p what s .answer) ≡ Answer.Refused Refusal.SeedSame)
+    -- What is compared isn't refused with it, and so it is the checks.
+    checks-refuse : (repliedAnswer (offers p what s .answer) ≡ Answer.Refused Refusal.SeedSame)
         ↔ (renewChecked p number count seed s ≡ Checked.Refused Refusal.SeedSame)
-    unfolding presents renewChecked valuesChecked
-    checks-refuse = by (renewChecked p number count seed s) (textChecked what) (texts-to-35 p what c own Refusal.SeedSame)
+    unfolding offers renewChecked valuesChecked
+    checks-refuse = by (renewChecked p number count seed s)
       where
-        by : (k texts : Checked) → (texts ≡ Checked.Refused Refusal.SeedSame → 63 ≤ 35)
-            → (repliedAnswer (unless (replyRefused s) (unless Checked.Refused k texts) (offered p (presentIn what) (nextOf what (ownAccount p s)) s) .answer)
+        by : (k : Checked)
+            → (repliedAnswer (unless (replyRefused s) k (compared p (presentIn what) (nextOf what (ownAccount p s)) s) .answer)
             ≡ Answer.Refused Refusal.SeedSame)
             ↔ (k ≡ Checked.Refused Refusal.SeedSame)
-        by Checked.Good Checked.Good h = (
-          λ e. absurd (offered-other Refusal.SeedSame refl p (presentIn what) (nextOf what (ownAccount p s)) s e),
+        by Checked.Good = (
+          λ e. absurd (compared-other Refusal.SeedSame refl p (presentIn what) (nextOf what (ownAccount p s)) s e),
           λ e. let z : _≡_ {A = ℕ} 0 1 = cc in absurd (omega arith),
         )
-        by Checked.Good (Checked.Refused why) h = (
-          λ e. let one : why ≡ Refusal.SeedSame = cc in absurd (omega (arith, h (ap Checked.Refused one))),
-          λ e. let z : _≡_ {A = ℕ} 0 1 = cc in absurd (omega arith),
-        )
-        by (Checked.Refused why) texts h = (
+        by (Checked.Refused why) = (
           λ e. let one : why ≡ Refusal.SeedSame = cc in ap Checked.Refused one,
           λ e. let one : why ≡ Refusal.SeedSame = cc in ap Answer.Refused one,
         )
@@ -95,8 +90,8 @@ module _ (p number count : ℕ) (seed : List ℕ) (new present : Reading) (c : C
           (sym parted ∙ ap₂ (λ (k : Checked) (b : Bool). unless Checked.Refused k (inOrder (must (not b) Refusal.SeedSame ∷ []))) (h .0) (h .1)),
     )
       where
-        did : answer c s ≡ repliedAnswer (presents p what s .answer)
-        did = call-presents p what c s own .0
+        did : answer c s ≡ repliedAnswer (offers p what s .answer)
+        did = call-offers p what c s own .0
 
         parted : unless Checked.Refused (inOrder before) (inOrder (seedOther seed (ownAccount p s) ∷ [])) ≡ renewChecked p number count seed s
         parted = in-parts before (seedOther seed (ownAccount p s) ∷ [])
@@ -109,31 +104,30 @@ module _ (p number count : ℕ) (seed : List ℕ) (new present : Reading) (c : C
 
 module _ (p i n : ℕ) (c : Call) (s : State) (m : Made s) (t : HasTurn p i s) (e : answer c s ≡ Answer.Count n) where
   -- The account is the next one.
-  pub next-by-id : (what : Presented) → Presents p what c → accountOf i (after c s) ≡ nextOf what (accountOf i s)
+  pub next-by-id : (what : Offered) → Offers p what c → accountOf i (after c s) ≡ nextOf what (accountOf i s)
   next-by-id what own =
       let taken = call-taken p n what s c own e in
       sym (taken-by-id p i n what s (after c s) m t taken) ∙ taken-account p n what s (after c s) taken
       ∙ ap (nextOf what) (turn-account p i s m t)
 
-  pub renewed-by-id : (number count : ℕ) (seed : List ℕ) (new present : Reading) → Presents p (Presented.Renewal number count seed new present) c
+  pub renewed-by-id : (number count : ℕ) (seed : List ℕ) (new present : ℕ) → Offers p (Offered.Renewal number count seed new present) c
       → remembered (accountOf i (after c s)) ≡ map lowerOf seed ∷ take 7 (remembered (accountOf i s))
-  renewed-by-id number count seed new present own = ap remembered (next-by-id (Presented.Renewal number count seed new present) own)
+  renewed-by-id number count seed new present own = ap remembered (next-by-id (Offered.Renewal number count seed new present) own)
 
   -- Its seed is another, and so one more of those that it has one after the other.
-  renewed-another : (what : Presented) → Presents p what c → renews what ≡ true → same (accountOf i (after c s) .seed) (accountOf i s .seed) ≡ false
-  renewed-another (Presented.Login present) own f = absurd (true≢false (sym f))
-  renewed-another (Presented.Renewal number count seed new present) own f =
-      let what = Presented.Renewal number count seed new present in
+  renewed-another : (what : Offered) → Offers p what c → renews what ≡ true → same (accountOf i (after c s) .seed) (accountOf i s .seed) ≡ false
+  renewed-another (Offered.Login present) own f = absurd (true≢false (sym f))
+  renewed-another (Offered.Renewal number count seed new present) own f =
+      let what = Offered.Renewal number count seed new present in
       let taken = call-taken p n what s c own e in
-      let other = taken-renews p n number count seed new present s (after c s) taken .2 .other in
+      let other = taken-renews p n number count seed new present s (after c s) taken .1 .other in
       ap (λ (room : Room). same (room .seed) (accountOf i s .seed)) (next-by-id what own)
       ∙ subst (λ (old : Room). same (map lowerOf seed) (old .seed) ≡ false) (turn-account p i s m t) (not-present (map lowerOf seed) (ownAccount p s) other)
-  renewed-another (Presented.Refused why) own f = absurd (true≢false (sym f))
 
 pub renewed-adds : (i : ℕ) (c : Call) (s : State) → Made s → Renews i s c → (calls : List Call)
     → seedsAlong i (c ∷ calls) s ≡ accountOf i s .seed ∷ seedsAlong i calls (after c s)
 unfolding following
-renewed-adds i c s m r calls = rw (renewed-another (r .port) i (r .count) c s m (r .turn) (r .accepted) (r .what) (r .presented) (r .renewal))
+renewed-adds i c s m r calls = rw (renewed-another (r .port) i (r .count) c s m (r .turn) (r .accepted) (r .what) (r .offered) (r .renewal))
 
 -- ---- an account that keeps its seed
 
@@ -159,16 +153,16 @@ refused-keeps why c s e i =
 -- ---- a call that doesn't renew the account
 
 module _ (s : State) (i : ℕ) (h : isThere i s ≡ true) where
-  -- Something is presented: it is refused; or accepted, and then not for this account, or to log in.
-  presented-remembers : (p : ℕ) (what : Presented) (c : Call) → Presents p what c → (Renews i s c → ⊥)
+  -- Something is offered: it is refused; or accepted, and then not for this account, or to log in.
+  offer-remembers : (p : ℕ) (what : Offered) (c : Call) → Offers p what c → (Renews i s c → ⊥)
       → remembered (accountOf i (after c s)) ≡ remembered (accountOf i s)
-  presented-remembers p what c own n = by (presents p what s .answer) (call-presents p what c s own .0)
+  offer-remembers p what c own n = by (offers p what s .answer) (call-offers p what c s own .0)
     where
       turn : (answered : ℕ) → answer c s ≡ Answer.Count answered → hasTurnFor p i s ≡ true
           → remembered (accountOf i (after c s)) ≡ remembered (accountOf i s)
       turn answered e t =
           cases (renews what)
-          (λ f. absurd (n (record { port = p; count = answered; what = what; presented = own; renewal = f; turn = t; accepted = e })))
+          (λ f. absurd (n (record { port = p; count = answered; what = what; offered = own; renewal = f; turn = t; accepted = e })))
           (λ f. unrenewed-keeps s i h c (login-keeps p i what c own f) .1)
 
       by : (a : Replied) → answer c s ≡ repliedAnswer a → remembered (accountOf i (after c s)) ≡ remembered (accountOf i s)
@@ -184,8 +178,9 @@ module _ (s : State) (i : ℕ) (h : isThere i s ≡ true) where
   unrenewed-remembers (Call.Join port id) q n = unrenewed-keeps s i h (Call.Join port id) q .1
   unrenewed-remembers (Call.Leave port) q n = unrenewed-keeps s i h (Call.Leave port) q .1
   unrenewed-remembers (Call.Challenge port room) q n = refl
-  unrenewed-remembers (Call.Reply port text) q n = presented-remembers port _ _ (Presents.by-reply text) n
-  unrenewed-remembers (Call.Renew port number count seed new text) q n = presented-remembers port _ _ (Presents.by-renew number count seed new text) n
+  unrenewed-remembers (Call.Offer port password) q n = offer-remembers port _ _ (Offers.by-offer password) n
+  unrenewed-remembers (Call.OfferRenewal port number count seed new password) q n =
+      offer-remembers port _ _ (Offers.by-renewal number count seed new password) n
   unrenewed-remembers Call.Tick q n = unrenewed-keeps s i h Call.Tick q .1
 
   -- So its seed is the same, and none is added to those that it has one after the other.

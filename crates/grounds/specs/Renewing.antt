@@ -1,4 +1,5 @@
--- A renewal that changes the algorithm, by Renew and by Reply, computed from the written steps.
+-- A renewal that changes the algorithm, offered as numbers and read from an `init` text, computed from the definitions.
+use Prim.Native.Nat.{ℕ}
 use mathlib.Core.Path.{_≡_, refl}
 use mathlib.Core.List.{List, [], _∷_, _++_}
 use Rattle.text.specs.Tests.{every, same}
@@ -17,7 +18,7 @@ use Rattle.password.specs.Algorithm.{algorithmName}
 use Rattle.password.specs.PhraseAndSeed.{plain}
 use Rattle.password.specs.Password.{fold, foldWords, numberAfter, bytesOf, hash}
 use Rattle.hex.specs.Hex.{hexOf, sixteenDigits, hexReading}
-use Rattle.reply.specs.Reply.{isWord, sixWords, readingOf}
+use Rattle.extended.specs.declared.reply_texts.ReplyText.{ReplyText}
 use Rattle.extended.specs.ReplyTypes.{typeName}
 use Rattle.extended.specs.Parameters.{wordAt, wordAfter, trimmed, parametersOf}
 use Rattle.extended.specs.ReplyTexts.{
@@ -31,7 +32,9 @@ use Rattle.extended.specs.ReplyTexts.{
   typedIn,
   layoutChecked,
   extendedOf,
+  saidIn,
   replyTextOf,
+  seedPart,
 }
 use Rattle.line.specs.Line.{some, others, turnWithout, left}
 use Rattle.accounts.specs.Accounts.{isOneOf}
@@ -43,34 +46,26 @@ use Rattle.table.specs.Steps.{
   joins,
   join,
   turnChecked,
-  offered,
-  loginRead,
+  compared,
+  offer,
   renewChecked,
-  renewRead,
-  renewal,
-  renew,
-  replyBy,
-  reply,
+  offerRenewal,
 }
 use Rattle.reached.specs.Calls.{Call, Answer, run, answers}
 
--- Account 1, by MD5, whose next password is 5, is renewed to SHA-1 with the count 3, by that call, and then answered with 6.
-abbrev pub changing : Call → List Call
-changing renewing =
-    Call.Enrol 1 1 2 (codes "lift1") (bytesOf (hash Algorithm.Md5 (bytesOf 5))) ∷ Call.Join 0 1 ∷ renewing ∷ Call.Join 0 1 ∷ Call.Reply 0 (hexOf 6) ∷ []
+-- To SHA-1, with the count 3 and another seed.
+abbrev pub renewing : Call
+renewing = Call.OfferRenewal 0 2 3 (codes "lift2") (hash Algorithm.Sha1 (bytesOf 6)) 5
 
--- By Renew; and, R-6, by Reply with an `init` text, as the RFC lays it out.
-abbrev pub byRenew : Call
-byRenew = Call.Renew 0 2 3 (codes "lift2") (bytesOf (hash Algorithm.Sha1 (bytesOf 6))) (hexOf 5)
-
-abbrev pub byReply : Call
-byReply = Call.Reply 0 (codes "init-hex:0000 0000 0000 0005:sha1 3 lift2:" ++ hexOf (hash Algorithm.Sha1 (bytesOf 6)))
+-- Account 1, by MD5, whose next password is 5, is renewed to SHA-1 with the count 3, and then logs in with 6.
+abbrev pub changing : List Call
+changing =
+    Call.Enrol 1 1 2 (codes "lift1") (bytesOf (hash Algorithm.Md5 (bytesOf 5))) ∷ Call.Join 0 1 ∷ renewing ∷ Call.Join 0 1 ∷ Call.Offer 0 6 ∷ []
 
 -- Each accepted answer is the new count, and the account has SHA-1 and the last password then, and remembers both seeds.
-abbrev pub Changes : Call → Type 0
-Changes renewing =
-    (answers (changing renewing) fresh ≡ Answer.Done ∷ Answer.Done ∷ Answer.Count 3 ∷ Answer.Done ∷ Answer.Count 2 ∷ [])
-    × (accountOf 1 (run (changing renewing) fresh) ≡ record {
+pub algorithm-changes :
+    (answers changing fresh ≡ Answer.Done ∷ Answer.Done ∷ Answer.Count 3 ∷ Answer.Done ∷ Answer.Count 2 ∷ [])
+    × (accountOf 1 (run changing fresh) ≡ record {
       id = 1;
       algorithm = Algorithm.Sha1;
       seed = codes "lift2";
@@ -78,20 +73,20 @@ Changes renewing =
       count = 2;
       password = 6;
     })
-
-pub algorithm-changes : Changes byRenew
-unfolding answers run enrolChecked enrol joinChecked joins join turnChecked offered loginRead replyBy reply renewChecked renewRead renewal renew
-    replyTextOf colons isOneOf placeOf inLines standsAt some others turnWithout left plain every same codes readingOf sixWords isWord
-    sixteenDigits hexReading parted unspaced digitsOf Digits.numberAfter hash fold foldWords numberAfter md5 registers absorbed compressed rounds
+unfolding answers run enrolChecked enrol joinChecked joins join turnChecked compared offer renewChecked offerRenewal isOneOf placeOf inLines standsAt
+    some others turnWithout left plain every same codes hash fold foldWords numberAfter md5 registers absorbed compressed rounds
     performed operation round1 round2 round3 round4 Sha1.hashValue Sha1.compressed Sha1.schedule Sha1.longer Sha1.steps Sha1.step Sha1.stepWith
     Sha1.f Sha1.K blockAt paddedWord paddedByte upTo
 algorithm-changes = (refl, refl)
 
-pub init-changes : Changes byReply
-unfolding answers run enrolChecked enrol joinChecked joins join turnChecked offered loginRead replyBy reply renewChecked renewRead renewal
-    replyTextOf colons partAt presentAt parametersAt newAt passwordBy renewalIn typedIn layoutChecked extendedOf wordAt wordAfter trimmed parametersOf
-    typeName algorithmName isCount runOf isOneOf placeOf inLines standsAt some others turnWithout left plain every same codes readingOf sixWords isWord
-    sixteenDigits hexReading parted unspaced digitsOf Digits.numberAfter hash fold foldWords numberAfter md5 registers absorbed compressed rounds
-    performed operation round1 round2 round3 round4 Sha1.hashValue Sha1.compressed Sha1.schedule Sha1.longer Sha1.steps Sha1.step Sha1.stepWith
-    Sha1.f Sha1.K blockAt paddedWord paddedByte upTo
-init-changes = (refl, refl)
+-- R-6: an `init` text, as the RFC lays it out, that is read to that renewal. The seed's five bytes stand at place 36.
+abbrev pub renewingText : List ℕ
+renewingText = codes "init-hex:0000 0000 0000 0005:sha1 3 lift2:" ++ hexOf (hash Algorithm.Sha1 (bytesOf 6))
+
+pub init-reads :
+    (replyTextOf renewingText ≡ ReplyText.Renewal 2 3 36 5 (hash Algorithm.Sha1 (bytesOf 6)) 5) × (seedPart renewingText 36 5 ≡ codes "lift2")
+unfolding replyTextOf saidIn colons partAt presentAt parametersAt newAt passwordBy renewalIn typedIn layoutChecked extendedOf wordAt wordAfter trimmed
+    parametersOf typeName algorithmName isCount runOf every same codes sixteenDigits hexReading parted unspaced digitsOf Digits.numberAfter hash fold
+    foldWords numberAfter absorbed Sha1.hashValue Sha1.compressed Sha1.schedule Sha1.longer Sha1.steps Sha1.step Sha1.stepWith Sha1.f Sha1.K blockAt
+    paddedWord paddedByte upTo
+init-reads = (refl, refl)

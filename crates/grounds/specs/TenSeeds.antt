@@ -5,9 +5,6 @@ use mathlib.Core.Path.{_≡_, refl}
 use mathlib.Core.List.{List, [], _∷_, _++_, map, flatten}
 use Rattle.refusal.specs.declared.Refusal.{Refusal}
 use Rattle.text.specs.Tests.{every, same}
-use Rattle.text.specs.Scan.{parted, unspaced}
-use Rattle.text.specs.Digits as Digits
-use Rattle.text.specs.Digits.{digitsOf}
 use Rattle.text.specs.Quoted.{codes}
 use Rattle.digests.specs.Lists.{upTo}
 use Rattle.digests.specs.Padding.{paddedByte, paddedWord, blockAt, absorbed}
@@ -16,27 +13,24 @@ use Rattle.digests.specs.Rounds.{compressed, rounds, performed, operation, roun
 use Rattle.password.specs.declared.algorithm.Algorithm.{Algorithm}
 use Rattle.password.specs.PhraseAndSeed.{plain}
 use Rattle.password.specs.Password.{fold, numberAfter, bytesOf, hash}
-use Rattle.hex.specs.Hex.{hexOf, sixteenDigits, hexReading}
-use Rattle.reply.specs.Reply.{isWord, sixWords, readingOf}
 use Rattle.line.specs.Line.{some, others, turnWithout, left}
 use Rattle.accounts.specs.Accounts.{isOneOf}
 use Rattle.table.specs.Table.{State, fresh, placeOf, inLines, standsAt}
-use Rattle.table.specs.Steps as Steps
-use Rattle.table.specs.Steps.{enrolChecked, enrol, joinChecked, joins, join, turnChecked, offered, renewChecked, renewRead, renew}
+use Rattle.table.specs.Steps.{enrolChecked, enrol, joinChecked, joins, join, turnChecked, compared, renewChecked, offerRenewal}
 use Rattle.reached.specs.Calls.{Call, Answer, after, answers}
 use Rattle.reached.specs.SeedsHad.{following, seedsAlong}
 
 -- The next password is always 5, so that one hash is stored every time.
-abbrev stored : List ℕ
-stored = bytesOf (hash Algorithm.Md5 (bytesOf 5))
+abbrev hashed : ℕ
+hashed = hash Algorithm.Md5 (bytesOf 5)
 
 -- Account 1, by MD5, with the count 2 and the seed `lift1`.
 abbrev pub begun : State
-begun = after (Call.Enrol 1 1 2 (codes "lift1") stored) fresh
+begun = after (Call.Enrol 1 1 2 (codes "lift1") (bytesOf hashed)) fresh
 
 -- Port 0 renews it with that seed; and joins for it first.
 abbrev pub renewing : String → Call
-renewing seed = Call.Renew 0 1 2 (codes seed) stored (hexOf 5)
+renewing seed = Call.OfferRenewal 0 1 2 (codes seed) hashed 5
 
 abbrev pub renewal : String → List Call
 renewal seed = Call.Join 0 1 ∷ renewing seed ∷ []
@@ -51,8 +45,7 @@ pub way-back :
     ≡ Answer.Done ∷ Answer.Count 2 ∷ Answer.Done ∷ Answer.Refused Refusal.SeedSame ∷ Answer.Refused Refusal.SeedSame ∷ [])
     × (seedsAlong 1 nineRenewals begun
     ≡ map codes ("lift1" ∷ "lift2" ∷ "lift3" ∷ "lift4" ∷ "lift5" ∷ "lift6" ∷ "lift7" ∷ "lift8" ∷ "lift9" ∷ "lift1" ∷ []))
-unfolding answers following flatten enrolChecked enrol joinChecked joins join turnChecked offered renewChecked renewRead Steps.renewal renew isOneOf
-    placeOf inLines standsAt some others turnWithout left plain every same codes readingOf sixWords isWord sixteenDigits hexReading
-    parted unspaced digitsOf Digits.numberAfter hash fold numberAfter md5 registers absorbed compressed rounds
+unfolding answers following flatten enrolChecked enrol joinChecked joins join turnChecked compared renewChecked offerRenewal isOneOf
+    placeOf inLines standsAt some others turnWithout left plain every same codes hash fold numberAfter md5 registers absorbed compressed rounds
     performed operation round1 round2 round3 round4 blockAt paddedWord paddedByte upTo
 way-back = (refl, refl)

@@ -14,10 +14,10 @@ use Rattle.accounts.specs.Rooms.{Room}
 use Rattle.table.specs.Table.{State, portOf, ownAccount}
 use Rattle.table.specs.TableChecks.{accountThere}
 use Rattle.table.specs.Steps as Steps
-use Rattle.table.specs.Steps.{refused, replyRefused, done, enrolChecked, joinChecked, leaveChecked, offered}
+use Rattle.table.specs.Steps.{refused, replyRefused, done, enrolChecked, joinChecked, leaveChecked, compared}
 use Rattle.reached.specs.Calls.{Call, Answer, checkedAnswer, repliedAnswer, answer, after}
-use Rattle.reached.specs.Presented.{Presented, Presents, tableChecked, textChecked, presentIn, nextOf, presents}
-use Rattle.reached.specs.PresentedLaws.{call-presents}
+use Rattle.reached.specs.Offered.{Offered, Offers, offerChecked, presentIn, nextOf, offers}
+use Rattle.reached.specs.OfferedLaws.{call-offers}
 use Rattle.grounds.specs.Listed.{isIn}
 
 settled-unchanged : (s s′ : State) (why : Refusal) (check : Checked)
@@ -31,10 +31,10 @@ module _ (why : Refusal) (other : isIn (listingOf why .0) (61 ∷ 62 ∷ []) ≡
       let same : w ≡ why = cc in
       true≢false (sym h ∙ ap (λ (x : Refusal). isIn (listingOf x .0) (61 ∷ 62 ∷ [])) same ∙ other)
 
-  -- a password that is offered is refused with 61 and 62 alone
-  pub offered-other : (port w : ℕ) (next : Room) (s : State) → repliedAnswer (offered port w next s .answer) ≡ Answer.Refused why → ⊥
-  unfolding offered
-  offered-other port w next s e =
+  -- a password that is compared is refused with 61 and 62 alone
+  pub compared-other : (port w : ℕ) (next : Room) (s : State) → repliedAnswer (compared port w next s .answer) ≡ Answer.Refused why → ⊥
+  unfolding compared
+  compared-other port w next s e =
       go (eqb (hash (ownAccount port s .algorithm) (bytesOf w)) (ownAccount port s .password)) (leb 3 (portOf port s .wrong + 1)) refl e
     where
       go : (t u : Bool) → leb 3 (portOf port s .wrong + 1) ≡ u
@@ -44,21 +44,21 @@ module _ (why : Refusal) (other : isIn (listingOf why .0) (61 ∷ 62 ∷ []) ≡
       go false true f e = wrong-is Refusal.ReplyWrongThird refl (rw f at e)
       go false false f e = wrong-is Refusal.ReplyWrong refl (rw f at e)
 
-  presents-unchanged : (port : ℕ) (what : Presented) (s : State) → repliedAnswer (presents port what s .answer) ≡ Answer.Refused why
-      → presents port what s .state ≡ s
-  unfolding presents
-  presents-unchanged port what s = go (unless Checked.Refused (tableChecked port what s) (textChecked what))
+  offers-unchanged : (port : ℕ) (what : Offered) (s : State) → repliedAnswer (offers port what s .answer) ≡ Answer.Refused why
+      → offers port what s .state ≡ s
+  unfolding offers
+  offers-unchanged port what s = go (offerChecked port what s)
     where
       go : (k : Checked)
-          → repliedAnswer (unless (replyRefused s) k (offered port (presentIn what) (nextOf what (ownAccount port s)) s) .answer) ≡ Answer.Refused why
-          → unless (replyRefused s) k (offered port (presentIn what) (nextOf what (ownAccount port s)) s) .state ≡ s
+          → repliedAnswer (unless (replyRefused s) k (compared port (presentIn what) (nextOf what (ownAccount port s)) s) .answer) ≡ Answer.Refused why
+          → unless (replyRefused s) k (compared port (presentIn what) (nextOf what (ownAccount port s)) s) .state ≡ s
       go (Checked.Refused w) e = refl
-      go Checked.Good e = absurd (offered-other port (presentIn what) (nextOf what (ownAccount port s)) s e)
+      go Checked.Good e = absurd (compared-other port (presentIn what) (nextOf what (ownAccount port s)) s e)
 
-  presented-unchanged : (port : ℕ) (what : Presented) (c : Call) (s : State) → Presents port what c → answer c s ≡ Answer.Refused why → after c s ≡ s
-  presented-unchanged port what c s p e =
-      let did = call-presents port what c s p in
-      did .1 ∙ presents-unchanged port what s (sym (did .0) ∙ e)
+  offer-unchanged : (port : ℕ) (what : Offered) (c : Call) (s : State) → Offers port what c → answer c s ≡ Answer.Refused why → after c s ≡ s
+  offer-unchanged port what c s p e =
+      let did = call-offers port what c s p in
+      did .1 ∙ offers-unchanged port what s (sym (did .0) ∙ e)
 
   pub refused-unchanged : (c : Call) (s : State) → answer c s ≡ Answer.Refused why → after c s ≡ s
   unfolding Steps.enrol Steps.remove Steps.join Steps.leave
@@ -67,7 +67,7 @@ module _ (why : Refusal) (other : isIn (listingOf why .0) (61 ∷ 62 ∷ []) ≡
   refused-unchanged (Call.Join port id) s e = settled-unchanged s _ why (joinChecked port id s) e
   refused-unchanged (Call.Leave port) s e = settled-unchanged s _ why (leaveChecked port s) e
   refused-unchanged (Call.Challenge port room) s e = refl
-  refused-unchanged (Call.Reply port text) s e = presented-unchanged port _ _ s (Presents.by-reply text) e
-  refused-unchanged (Call.Renew port number count seed new text) s e =
-      presented-unchanged port _ _ s (Presents.by-renew number count seed new text) e
+  refused-unchanged (Call.Offer port password) s e = offer-unchanged port _ _ s (Offers.by-offer password) e
+  refused-unchanged (Call.OfferRenewal port number count seed new password) s e =
+      offer-unchanged port _ _ s (Offers.by-renewal number count seed new password) e
   refused-unchanged Call.Tick s e = let z : _≡_ {A = ℕ} 0 1 = cc in absurd (omega arith)

@@ -25,8 +25,8 @@ use Rattle.table.specs.TableChecks.{idGiven, accountThere, portKnown, notInLine
 use Rattle.table.specs.Steps as Steps
 use Rattle.table.specs.Steps.{After, refused, replyRefused, done, enrolChecked, joinChecked, leaveChecked, turnChecked}
 use Rattle.reached.specs.Calls.{Call, checkedAnswer, repliedAnswer, writtenAnswer, answer, after}
-use Rattle.reached.specs.Presented.{Presented, Presents, newValuesChecked, tableChecked, textChecked, presents}
-use Rattle.reached.specs.PresentedLaws.{call-presents}
+use Rattle.reached.specs.Offered.{Offered, Offers, newValuesChecked, offerChecked, offers}
+use Rattle.reached.specs.OfferedLaws.{call-offers}
 use Rattle.reached.specs.Equal.{accountsIn}
 use Rattle.reached.specs.Made.{Idle, Made}
 use Rattle.grounds.specs.Full.{settled-answer}
@@ -164,21 +164,19 @@ module _ (s : State) (none : accountsIn (s .rooms) ≡ 0) where
   unfolding Steps.challenge
   challenge-nobody port room = (written-refused _ (turnChecked port s) (inTurn port s) (turn-checks port) (turn-refuses port), refl)
 
-  -- Reply and Renew, whatever is presented.
-  presented-checks : (port : ℕ) (what : Presented) → unless Checked.Refused (tableChecked port what s) (textChecked what) ≡ inTurn port s
-  presented-checks port what = go (turnChecked port s) (turn-checks port)
+  -- Offer, whatever is offered.
+  offer-checks : (port : ℕ) (what : Offered) → offerChecked port what s ≡ inTurn port s
+  offer-checks port what = go (turnChecked port s) (turn-checks port)
     where
-      go : (turn : Checked) → turn ≡ inTurn port s
-          → unless Checked.Refused (unless Checked.Refused turn (newValuesChecked what (ownAccount port s))) (textChecked what) ≡ inTurn port s
+      go : (turn : Checked) → turn ≡ inTurn port s → unless Checked.Refused turn (newValuesChecked what (ownAccount port s)) ≡ inTurn port s
       go Checked.Good e = absurd (turn-refuses port (sym e))
       go (Checked.Refused why) e = e
 
-  pub presents-nobody : (port : ℕ) (what : Presented) (c : Call) → Presents port what c → OnlyAnswers c s (inTurn port s)
-  unfolding presents
-  presents-nobody port what c p =
-      let did = call-presents port what c s p in
-      let found = replied-refused s _ (unless Checked.Refused (tableChecked port what s) (textChecked what)) (inTurn port s) (presented-checks port what)
-      (turn-refuses port) in
+  pub offers-nobody : (port : ℕ) (what : Offered) (c : Call) → Offers port what c → OnlyAnswers c s (inTurn port s)
+  unfolding offers
+  offers-nobody port what c p =
+      let did = call-offers port what c s p in
+      let found = replied-refused s _ (offerChecked port what s) (inTurn port s) (offer-checks port what) (turn-refuses port) in
       (did .0 ∙ found .0, did .1 ∙ found .1)
 
 -- Leave, where a port may be in line.

@@ -1,41 +1,31 @@
 -- What 61 and 62 change, and who is answered with them.
-use Prim.Native.Nat.{ℕ, _-_, _≤_}
+use Prim.Native.Nat.{ℕ, _-_}
 use native.Mathlib.Omega.{arith}
 use mathlib.Core.Path.{_≡_, refl, sym, ap, _∙_}
-use mathlib.Core.Bool.{Bool, true, false, true≢false, cond, not, _&&_, _||_}
-use mathlib.Core.List.{List, [], _∷_, _++_, map}
-use borrow.Author.Tests.{eqb-true}
+use mathlib.Core.Bool.{Bool, true, false, cond, not, _&&_}
+use mathlib.Core.List.{List, [], _∷_, map}
 use lib.Dec.{eqb, leb, ltb}
 use lib.ListN.{length}
 use Rattle.refusal.specs.declared.Refusal.{Refusal}
 use Rattle.refusal.specs.declared.Checked.{Checked}
 use Rattle.refusal.specs.declared.Written.{Written}
 use Rattle.refusal.specs.Numbers.{listingOf}
-use Rattle.refusal.specs.Checks.{unless, inOrder, readChecked}
-use Rattle.text.specs.Tests.{every}
-use Rattle.text.specs.Scan.{tokens, unspaced}
+use Rattle.refusal.specs.Checks.{unless, inOrder}
 use Rattle.password.specs.PhraseAndSeed.{seedChecked}
 use Rattle.password.specs.Algorithm.{numbered}
 use Rattle.password.specs.Password.{bytesOf, hash}
 use Rattle.challenge.specs.Challenges.{challengeText, challengeWrittenBy}
-use Rattle.hex.specs.Hex.{sixteenDigits}
-use Rattle.reply.specs.Reply.{sixWords, readingOf}
-use Rattle.extended.specs.ReplyTypes.{isInit, isHex}
-use Rattle.extended.specs.ReplyTexts.{partAt, presentAt, newAt, colons}
 use Rattle.port.specs.Port.{wrongAnswer}
 use Rattle.accounts.specs.Rooms.{Room}
 use Rattle.table.specs.Table.{State, holds, isThere, accountOf, portOf, waits, ownAccount}
 use Rattle.table.specs.TableChecks.{accountThere}
 use Rattle.table.specs.Steps as Steps
-use Rattle.table.specs.Steps.{refused, replyRefused, done, enrolChecked, joinChecked, leaveChecked, turnChecked, offered}
+use Rattle.table.specs.Steps.{refused, replyRefused, done, enrolChecked, joinChecked, leaveChecked, turnChecked, compared}
 use Rattle.reached.specs.Calls.{Call, Answer, checkedAnswer, repliedAnswer, writtenAnswer, answer}
-use Rattle.reached.specs.Presented.{Presented, Presents, inReply, tableChecked, textChecked, presentIn, nextOf, presents}
-use Rattle.reached.specs.PresentedLaws.{call-presents}
+use Rattle.reached.specs.Offered.{Offered, Offers, offerChecked, presentIn, nextOf, offers}
+use Rattle.reached.specs.OfferedLaws.{call-offers}
 use Rattle.reached.specs.Day.{WrongReply}
 use Rattle.grounds.specs.Listed.{isIn}
-use Rattle.grounds.specs.Conditions.{Row, wordRows, replyRows, isPlain, isType, typeOf, saidRows}
-use Rattle.grounds.specs.Exactly.{refused-at-most}
-use Rattle.grounds.specs.Refusing.{reply-rows, text-rows}
 use Rattle.grounds.specs.Never.{
   Test,
   test,
@@ -46,47 +36,11 @@ use Rattle.grounds.specs.Never.{
   Never,
   other-never,
   test-never,
-  then-never,
   seed-never,
   rows-never,
   turn-never,
   table-never,
 }
-
--- The rows of a text have no number over 35.
-rows-to-35 : (text : List ℕ) → every (λ (row : Row). leb (row .0) 35) (saidRows (λ number count seed. []) text) ≡ true
-unfolding every
-rows-to-35 text = go (isPlain text) (isInit (typeOf text)) (isHex (typeOf text))
-  where
-    part : Bool → List ℕ → List Row
-    part x p = cond x ((33, not (sixteenDigits (unspaced p))) ∷ []) (wordRows p ++ (33, not (sixWords (tokens p))) ∷ [])
-
-    go : (p i x : Bool) → every (λ (row : Row). leb (row .0) 35)
-        ((30, not p && ltb 256 (length text)) ∷ (34, not p && not (isType (partAt text 0)))
-        ∷ (35, not p && not (eqb (colons text) (cond i 3 1)))
-        ∷ (cond (not p && i) [] [] ++ cond p (replyRows text) (cond i (part x (partAt text (newAt text))) [] ++ part x (partAt text (presentAt text))))) ≡ true
-    go true i x = refl
-    go false true true = refl
-    go false true false = refl
-    go false false true = refl
-    go false false false = refl
-
--- So what the texts of a reply or a renewal are refused with is 35 at most.
-pub texts-to-35 : (port : ℕ) (what : Presented) (c : Call) → Presents port what c → (why : Refusal) → textChecked what ≡ Checked.Refused why
-    → listingOf why .0 ≤ 35
-unfolding every
-texts-to-35 port what c (Presents.by-reply text) why e =
-    refused-at-most (textChecked (inReply text)) (saidRows (λ number count seed. []) text) (text-rows text) 35 (rows-to-35 text) why e
-texts-to-35 port what c (Presents.by-renew number count seed new text) why e =
-    refused-at-most (readChecked (readingOf text)) (replyRows text) (reply-rows text) 35 refl why e
-
-from-61 : (n : ℕ) → isIn n (61 ∷ 62 ∷ []) ≡ true → 61 ≤ n
-from-61 n h = go (eqb n 61) (eqb n 62) refl refl h
-  where
-    go : (a b : Bool) → eqb n 61 ≡ a → eqb n 62 ≡ b → (a || (b || false)) ≡ true → 61 ≤ n
-    go true b e f h = omega (arith, eqb-true n 61 e)
-    go false true e f h = omega (arith, eqb-true n 62 f)
-    go false false e f h = absurd (true≢false (sym h))
 
 module _ (why : Refusal) (wrong : isIn (listingOf why .0) (61 ∷ 62 ∷ []) ≡ true) where
   -- ---- checks and calls that never answer so
@@ -100,11 +54,8 @@ module _ (why : Refusal) (wrong : isIn (listingOf why .0) (61 ∷ 62 ∷ []) ≡
   turn-other : (port : ℕ) (s : State) → Other (turnChecked port s)
   turn-other port s = turn-never (61 ∷ 62 ∷ []) why wrong port s refl
 
-  table-other : (port : ℕ) (what : Presented) (s : State) → Other (tableChecked port what s)
+  table-other : (port : ℕ) (what : Offered) (s : State) → Other (offerChecked port what s)
   table-other port what s = table-never (61 ∷ 62 ∷ []) why wrong port what s refl (λ number count seed. refl)
-
-  texts-other : (port : ℕ) (what : Presented) (c : Call) → Presents port what c → Other (textChecked what)
-  texts-other port what c p e = omega (arith, from-61 (listingOf why .0) wrong, texts-to-35 port what c p why e)
 
   settled-other : (s s′ : State) (check : Checked) → Other check → checkedAnswer (unless (refused s) check (done s′) .answer) ≡ Answer.Refused why → ⊥
   settled-other s s′ Checked.Good n e = let z : _≡_ {A = ℕ} 0 1 = cc in omega arith
@@ -131,43 +82,41 @@ module _ (why : Refusal) (wrong : isIn (listingOf why .0) (61 ∷ 62 ∷ []) ≡
       go Checked.Good k Checked.Good l false true n e = let z : _≡_ {A = ℕ} 0 1 = cc in omega arith
       go Checked.Good k Checked.Good l false false n e = as-check Refusal.BufferShort (other-never (61 ∷ 62 ∷ []) why wrong Refusal.BufferShort refl) e
 
-  -- ---- a password that is offered
+  -- ---- a password that is compared
 
   -- The answer goes by the port's run, and the table is that of a wrong reply.
   Rejected : ℕ → State → State → Type 0
   Rejected port s s′ = (why ≡ wrongAnswer (portOf port s)) × (s′ ≡ Steps.rejected port s .state)
 
-  offered-wrong : (port w : ℕ) (next : Room) (s : State) → repliedAnswer (offered port w next s .answer) ≡ Answer.Refused why
-      → Rejected port s (offered port w next s .state)
-  unfolding offered Rejected
-  offered-wrong port w next s = go (eqb (hash (ownAccount port s .algorithm) (bytesOf w)) (ownAccount port s .password))
+  compared-wrong : (port w : ℕ) (next : Room) (s : State) → repliedAnswer (compared port w next s .answer) ≡ Answer.Refused why
+      → Rejected port s (compared port w next s .state)
+  unfolding compared Rejected
+  compared-wrong port w next s = go (eqb (hash (ownAccount port s .algorithm) (bytesOf w)) (ownAccount port s .password))
     where
       go : (t : Bool) → repliedAnswer (cond t (Steps.accepted port next s) (Steps.rejected port s) .answer) ≡ Answer.Refused why
           → (why ≡ wrongAnswer (portOf port s)) × (cond t (Steps.accepted port next s) (Steps.rejected port s) .state ≡ Steps.rejected port s .state)
       go true e = let z : _≡_ {A = ℕ} 0 1 = cc in absurd (omega arith)
       go false e = (cc, refl)
 
-  presents-wrong : (port : ℕ) (what : Presented) (s : State) → Other (textChecked what)
-      → repliedAnswer (presents port what s .answer) ≡ Answer.Refused why → Rejected port s (presents port what s .state)
-  unfolding presents
-  presents-wrong port what s n =
-      go (unless Checked.Refused (tableChecked port what s) (textChecked what))
-      (then-never (61 ∷ 62 ∷ []) why wrong (tableChecked port what s) (textChecked what) (table-other port what s) n)
+  offers-wrong : (port : ℕ) (what : Offered) (s : State) → repliedAnswer (offers port what s .answer) ≡ Answer.Refused why
+      → Rejected port s (offers port what s .state)
+  unfolding offers
+  offers-wrong port what s = go (offerChecked port what s) (table-other port what s)
     where
       go : (k : Checked) → Other k
-          → repliedAnswer (unless (replyRefused s) k (offered port (presentIn what) (nextOf what (ownAccount port s)) s) .answer) ≡ Answer.Refused why
-          → Rejected port s (unless (replyRefused s) k (offered port (presentIn what) (nextOf what (ownAccount port s)) s) .state)
+          → repliedAnswer (unless (replyRefused s) k (compared port (presentIn what) (nextOf what (ownAccount port s)) s) .answer) ≡ Answer.Refused why
+          → Rejected port s (unless (replyRefused s) k (compared port (presentIn what) (nextOf what (ownAccount port s)) s) .state)
       go (Checked.Refused v) n e = let same : v ≡ why = cc in absurd (n (ap Checked.Refused same))
-      go Checked.Good n e = offered-wrong port (presentIn what) (nextOf what (ownAccount port s)) s e
+      go Checked.Good n e = compared-wrong port (presentIn what) (nextOf what (ownAccount port s)) s e
 
   -- ---- every call
 
-  wrong-at : (port : ℕ) (what : Presented) (c : Call) (s : State) → Presents port what c → answer c s ≡ Answer.Refused why → WrongReply why c s
+  wrong-at : (port : ℕ) (what : Offered) (c : Call) (s : State) → Offers port what c → answer c s ≡ Answer.Refused why → WrongReply why c s
   unfolding Rejected
   wrong-at port what c s p e =
-      let did = call-presents port what c s p in
-      let wrongly = presents-wrong port what s (texts-other port what c p) (sym (did .0) ∙ e) in
-      record { port = port; what = what; presented = p; answered = wrongly .0; changed = did .1 ∙ wrongly .1 }
+      let did = call-offers port what c s p in
+      let wrongly = offers-wrong port what s (sym (did .0) ∙ e) in
+      record { port = port; what = what; offered = p; answered = wrongly .0; changed = did .1 ∙ wrongly .1 }
 
   pub wrong-reply : (c : Call) (s : State) → answer c s ≡ Answer.Refused why → WrongReply why c s
   unfolding Steps.enrol Steps.remove Steps.join Steps.leave enrolChecked joinChecked leaveChecked
@@ -186,6 +135,6 @@ module _ (why : Refusal) (wrong : isIn (listingOf why .0) (61 ∷ 62 ∷ []) ≡
       absurd (settled-other s _ (leaveChecked port s)
       (checks-other (test (leb port 3) Refusal.PortUnknown ∷ test (waits port s) Refusal.PortNotInLine ∷ []) refl) e)
   wrong-reply (Call.Challenge port room) s e = absurd (challenge-other port room s e)
-  wrong-reply (Call.Reply port text) s e = wrong-at port _ _ s (Presents.by-reply text) e
-  wrong-reply (Call.Renew port number count seed new text) s e = wrong-at port _ _ s (Presents.by-renew number count seed new text) e
+  wrong-reply (Call.Offer port password) s e = wrong-at port _ _ s (Offers.by-offer password) e
+  wrong-reply (Call.OfferRenewal port number count seed new password) s e = wrong-at port _ _ s (Offers.by-renewal number count seed new password) e
   wrong-reply Call.Tick s e = let z : _≡_ {A = ℕ} 0 1 = cc in absurd (omega arith)

@@ -1,4 +1,4 @@
-// What the benchmark calls from C (bench/turns.c) to see how much stack Reply and Renew take: callers that have a table of 32 accounts, hand it over by
+// What the benchmark calls from C (bench/turns.c) to see how much stack the offers take: callers that have a table of 32 accounts, hand it over by
 // value and put what comes back in its place, as often as they are told, so that nothing of it can be left out. For the benchmark alone: no crate stands
 // on this one, and its functions promise nothing. They are proved to be safe, and to end.
 use accounts::Account;
@@ -60,21 +60,20 @@ fn number_of(answer: Replied) -> u32 {
 
 // The last answer.
 #[no_mangle]
-pub extern "C" fn painted_reply(
+pub extern "C" fn painted_offer(
     times: u32,
     room: u8,
     algorithm: u32,
     stored: u64,
     port: u8,
-    text: &[u8],
-    older: &mut [u8; 3808],
+    password: u64,
 ) -> u32 {
     let mut table = full(room, algorithm, stored);
     table.rooms[(room % 32) as usize] = account(2, algorithm, stored);
     let mut number = 0;
     let mut k = 0;
     while k < times {
-        let made = login::reply(table, older, port, text);
+        let made = login::offer(table, port, password);
         let answer = made.answer;
         number = number_of(answer);
         table = made.table;
@@ -84,24 +83,24 @@ pub extern "C" fn painted_reply(
 }
 
 #[no_mangle]
-pub extern "C" fn painted_renew(
+pub extern "C" fn painted_offer_renewal(
     times: u32,
     room: u8,
     algorithm: u32,
     stored: u64,
     port: u8,
-    text: &[u8],
     older: &mut [u8; 3808],
     count: u16,
     seed: &[u8],
-    password: &[u8; 8],
+    new: u64,
+    password: u64,
 ) -> u32 {
     let mut table = full(room, algorithm, stored);
     table.rooms[(room % 32) as usize] = account(2, algorithm, stored);
     let mut number = 0;
     let mut n = 0;
     while n < times {
-        let made = login::renew(table, older, port, algorithm, count, seed, password, text);
+        let made = login::offer_renewal(table, older, port, algorithm, count, seed, new, password);
         let answer = made.answer;
         number = number_of(answer);
         table = made.table;

@@ -8,13 +8,29 @@ use Rattle.refusal.specs.declared.Written.{Written}
 use Rattle.refusal.specs.Numbers.{readingNumbers, writtenNumbers}
 use Rattle.challenge.specs.declared.reading.Challenge.{Challenge}
 use Rattle.challenge.specs.Challenges.{challengeNumbers}
+use Rattle.extended.specs.declared.reply_texts.ReplyText.{ReplyText}
+use Rattle.extended.specs.ReplyTexts.{replyNumbers}
 use Rattle.panel.specs.declared.structs.LiftChallenge.{LiftChallenge}
 use Rattle.panel.specs.declared.structs.LiftReading.{LiftReading}
+use Rattle.panel.specs.declared.structs.LiftReply.{LiftReply}
 use Rattle.panel.specs.declared.structs.LiftWritten.{LiftWritten}
 
 abbrev pub readingRow : Reading → LiftReading
 readingRow r =
     record { password = readingNumbers r .1; refusal = readingNumbers r .0 .0; marks = readingNumbers r .0 .1 }
+
+abbrev pub replyRow : ReplyText → LiftReply
+replyRow r = record {
+  password = replyNumbers r .7;
+  «new_password» = replyNumbers r .6;
+  «seed_at» = replyNumbers r .4;
+  «seed_len» = replyNumbers r .5;
+  init = replyNumbers r .1;
+  algorithm = replyNumbers r .2;
+  count = replyNumbers r .3;
+  refusal = replyNumbers r .0 .0;
+  marks = replyNumbers r .0 .1;
+}
 
 abbrev pub challengeRow : Challenge → LiftChallenge
 challengeRow c = record {

@@ -5,9 +5,10 @@ ghost use Rattle.cards.specs.Cards.{cardOf, cardWritten};
 ghost use Rattle.challenge.specs.Challenges.{challengeOf, textByNumber, challengeWritten};
 ghost use Rattle.digests.specs.Md5.{md5};
 ghost use Rattle.digests.specs.Sha1.{sha1};
+ghost use Rattle.extended.specs.ReplyTexts.{replyTextOf};
 ghost use Rattle.extended.specs.ReplyWriting.{extendedWritten, textByNumbers};
 ghost use Rattle.hex.specs.Hex.{hexOf};
-ghost use Rattle.panel.specs.Answers.{challengeRow, readingRow, Reported};
+ghost use Rattle.panel.specs.Answers.{challengeRow, readingRow, replyRow, Reported};
 ghost use Rattle.password.specs.Password.{generated, numberOf, bytesOf};
 ghost use Rattle.reply.specs.Reply.{readingOf};
 ghost use Rattle.sixwords.specs.Spelling.{wordsOf};
@@ -16,9 +17,11 @@ ghost use lib.ListN.{length};
 ghost use mathlib.Core.Path.{_≡_};
 use crate::structs::LiftChallenge;
 use crate::structs::LiftReading;
+use crate::structs::LiftReply;
 use crate::structs::LiftWritten;
 use crate::structs::challenge_row;
 use crate::structs::reading_row;
+use crate::structs::reply_row;
 use crate::structs::written_row;
 
 // Answers as C sees them.
@@ -54,13 +57,20 @@ pub extern "C" fn lift_password(
     reading_row(generator::generate(algorithm, phrase, seed, count))
 }
 
-// Replies: reading a plain one, writing one as hex, as words or as an extended reply, and a password's eight bytes.
+// Replies: reading a plain one, or one of either kind; writing one as hex, as words or as an extended reply; and a password's eight bytes.
 
 #[no_mangle]
-pub extern "C" fn lift_read_reply(text: &[u8]) -> LiftReading
+pub extern "C" fn lift_read_plain(text: &[u8]) -> LiftReading
     ensures { λ r. ⌜ r ≡ readingRow (readingOf (now (text .entry))) ⌝ }
 {
     reading_row(reply::read(text))
+}
+
+#[no_mangle]
+pub extern "C" fn lift_read_reply(text: &[u8]) -> LiftReply
+    ensures { λ r. ⌜ r ≡ replyRow (replyTextOf (now (text .entry))) ⌝ }
+{
+    reply_row(extended::reply_texts::read(text))
 }
 
 #[no_mangle]

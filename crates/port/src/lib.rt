@@ -62,7 +62,7 @@ pub fn right(port: &mut Port)
     *port = right_step(*port);
 }
 
-// What Reply and Renew answer then is `wrong_answer` of the record as it was.
+// What is answered then is `wrong_answer` of the record as it was.
 pub fn wrong(port: &mut Port)
     ensures { λ _. ⌜ now (port .exit) ≡ wrongly (now (port .entry)) ⌝ }
 {

@@ -8,7 +8,7 @@ use Rattle.refusal.specs.declared.Listing.{Listing}
 use Rattle.refusal.specs.Numbers.{listingOf, checkedNumbers, writtenNumbers}
 use Rattle.table.specs.declared.Replied.{Replied}
 use Rattle.table.specs.Table.{State}
-use Rattle.table.specs.Steps.{enrol, remove, join, leave, challenge, reply, renew, tick, repliedNumbers}
+use Rattle.table.specs.Steps.{enrol, remove, join, leave, challenge, offer, offerRenewal, tick, repliedNumbers}
 
 -- A call with its arguments. Challenge is lent a buffer, of which only the room counts.
 pub data Call : Type 0 where
@@ -17,8 +17,8 @@ pub data Call : Type 0 where
   Join : (port id : ℕ) → Call
   Leave : (port : ℕ) → Call
   Challenge : (port room : ℕ) → Call
-  Reply : (port : ℕ) (text : List ℕ) → Call
-  Renew : (port number count : ℕ) (seed password text : List ℕ) → Call
+  Offer : (port password : ℕ) → Call
+  OfferRenewal : (port number count : ℕ) (seed : List ℕ) (new password : ℕ) → Call
   Tick : Call
 
 -- The table after a call. Challenge only looks.
@@ -28,8 +28,8 @@ after (Call.Remove id) s = remove id s .state
 after (Call.Join port id) s = join port id s .state
 after (Call.Leave port) s = leave port s .state
 after (Call.Challenge port room) s = s
-after (Call.Reply port text) s = reply port text s .state
-after (Call.Renew port number count seed password text) s = renew port number count seed password text s .state
+after (Call.Offer port password) s = offer port password s .state
+after (Call.OfferRenewal port number count seed new password) s = offerRenewal port number count seed new password s .state
 after Call.Tick s = tick s
 
 -- What a call answers: nothing to report, a new count, bytes written, or a refusal.
@@ -57,8 +57,8 @@ answer (Call.Remove id) s = checkedAnswer (remove id s .answer)
 answer (Call.Join port id) s = checkedAnswer (join port id s .answer)
 answer (Call.Leave port) s = checkedAnswer (leave port s .answer)
 answer (Call.Challenge port room) s = writtenAnswer (challenge port room s)
-answer (Call.Reply port text) s = repliedAnswer (reply port text s .answer)
-answer (Call.Renew port number count seed password text) s = repliedAnswer (renew port number count seed password text s .answer)
+answer (Call.Offer port password) s = repliedAnswer (offer port password s .answer)
+answer (Call.OfferRenewal port number count seed new password) s = repliedAnswer (offerRenewal port number count seed new password s .answer)
 answer Call.Tick s = Answer.Done
 
 -- The number and value of a call's answer: those of the enum that it answers with.

@@ -50,8 +50,8 @@ use Rattle.table.specs.Steps as steps
 use Rattle.table.specs.Steps.{enrolChecked, joinChecked, leaveChecked, turnChecked}
 use Rattle.table.specs.StepLaws.{enrol-passed}
 use Rattle.reached.specs.Made.{Idle}
-use Rattle.reached.specs.Presented.{Presented, inReply, inRenew, newValuesChecked, tableChecked, textChecked, presentIn, nextOf, presents}
-use Rattle.reached.specs.PresentedLaws.{next-id, reply-presents, renew-presents}
+use Rattle.reached.specs.Offered.{Offered, newValuesChecked, offerChecked, presentIn, nextOf, offers}
+use Rattle.reached.specs.OfferedLaws.{next-id, offer-offers, renewal-offers}
 use Rattle.reached.specs.Equal.{accountBy, SameAccounts, Equal, Alike, times, Housed}
 use Rattle.reached.specs.RoomsFound.{
   holds-times,
@@ -230,10 +230,9 @@ module _ (P : List Port) (l m : List Held) (h : SameAccounts l m) (a : Housed (t
       ∷ must (isFront port (frontOf (own .line))) Refusal.PortNotInFront ∷ accountHeld (own .account) ∷ notUsedUp (own .account) ∷ []))
       (waits-same port) (room-same port)
 
-  presents-check : (port : ℕ) (what : Presented)
-      → unless Checked.Refused (tableChecked port what s) (textChecked what) ≡ unless Checked.Refused (tableChecked port what t) (textChecked what)
-  presents-check port what =
-      ap₂ (λ (k : Checked) (own : Held). unless Checked.Refused (unless Checked.Refused k (newValuesChecked what (own .account))) (textChecked what))
+  offers-check : (port : ℕ) (what : Offered) → offerChecked port what s ≡ offerChecked port what t
+  offers-check port what =
+      ap₂ (λ (k : Checked) (own : Held). unless Checked.Refused k (newValuesChecked what (own .account)))
       (turn-check port) (room-same port)
 
   -- ---- what is set
@@ -329,11 +328,11 @@ module _ (P : List Port) (l m : List Held) (h : SameAccounts l m) (a : Housed (t
   unfolding steps.tick
   tick-equal = record { accounts = lined-same ticked l m h; ports = refl }
 
-  -- What is offered for the account whose turn it is.
-  offered-alike : (port password : ℕ) (next : Room) → TurnGood port s → next .id ≡ ownAccount port s .id
-      → Alike (steps.offered port password next s) (steps.offered port password next t)
-  unfolding steps.offered
-  offered-alike port password next g n =
+  -- What is compared for the account whose turn it is.
+  compared-alike : (port password : ℕ) (next : Room) → TurnGood port s → next .id ≡ ownAccount port s .id
+      → Alike (steps.compared port password next s) (steps.compared port password next t)
+  unfolding steps.compared
+  compared-alike port password next g n =
       subst (λ (b : Bool). Alike (cond right (steps.accepted port next s) (steps.rejected port s))
       (cond b (steps.accepted port next t) (steps.rejected port t)))
       (ap (λ (x : Held). eqb (hash (x .account .algorithm) (bytesOf password)) (x .account .password)) (room-same port)) (by right)
@@ -363,26 +362,25 @@ module _ (P : List Port) (l m : List Held) (h : SameAccounts l m) (a : Housed (t
       by true = alike (Replied.Accepted (next .count)) _ _ _ (lined-same (left port) _ _ put)
       by false = alike (Replied.Refused (wrongAnswer (portOf port s))) _ _ _ (lined-same (left port) l m h)
 
-  -- What is presented: the account that comes of it is made from the present one.
-  presents-alike : (port : ℕ) (what : Presented) → Alike (presents port what s) (presents port what t)
-  unfolding presents
-  presents-alike port what =
-      checked-alike Replied.Refused _ _ (presents-check port what) _ _
+  -- What is offered: the account that comes of it is made from the present one.
+  offers-alike : (port : ℕ) (what : Offered) → Alike (offers port what s) (offers port what t)
+  unfolding offers
+  offers-alike port what =
+      checked-alike Replied.Refused _ _ (offers-check port what) _ _
       (λ e.
-      let passed = both-good (tableChecked port what s) (textChecked what) e in
-      let g = turn-good port s (both-good (turnChecked port s) (newValuesChecked what (ownAccount port s)) (passed .0) .0) in
-      subst (λ (x : Held). Alike (steps.offered port (presentIn what) (nextOf what (ownAccount port s)) s)
-      (steps.offered port (presentIn what) (nextOf what (x .account)) t))
-      (room-same port) (offered-alike port (presentIn what) (nextOf what (ownAccount port s)) g (next-id what (ownAccount port s))))
+      let g = turn-good port s (both-good (turnChecked port s) (newValuesChecked what (ownAccount port s)) e .0) in
+      subst (λ (x : Held). Alike (steps.compared port (presentIn what) (nextOf what (ownAccount port s)) s)
+      (steps.compared port (presentIn what) (nextOf what (x .account)) t))
+      (room-same port) (compared-alike port (presentIn what) (nextOf what (ownAccount port s)) g (next-id what (ownAccount port s))))
 
-  pub reply-alike : (port : ℕ) (text : List ℕ) → Alike (steps.reply port text s) (steps.reply port text t)
-  reply-alike port text = rw (reply-presents port text s, reply-presents port text t) (presents-alike port (inReply text))
+  pub offer-alike : (port password : ℕ) → Alike (steps.offer port password s) (steps.offer port password t)
+  offer-alike port password = rw (offer-offers port password s, offer-offers port password t) (offers-alike port (Offered.Login password))
 
-  pub renew-alike : (port number count : ℕ) (seed new text : List ℕ)
-      → Alike (steps.renew port number count seed new text s) (steps.renew port number count seed new text t)
-  renew-alike port number count seed new text =
-      rw (renew-presents port number count seed new text s, renew-presents port number count seed new text t)
-      (presents-alike port (inRenew number count seed new text))
+  pub renewal-alike : (port number count : ℕ) (seed : List ℕ) (new password : ℕ)
+      → Alike (steps.offerRenewal port number count seed new password s) (steps.offerRenewal port number count seed new password t)
+  renewal-alike port number count seed new password =
+      rw (renewal-offers port number count seed new password s, renewal-offers port number count seed new password t)
+      (offers-alike port (Offered.Renewal number count seed new password))
 
   pub remove-alike : (id : ℕ) → Alike (steps.remove id s) (steps.remove id t)
   unfolding steps.remove

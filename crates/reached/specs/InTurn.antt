@@ -7,7 +7,6 @@ use lib.Dec.{eqb}
 use Rattle.line.specs.Line.{standsIn, frontOf}
 use Rattle.table.specs.Table.{State, fresh, lineOf, isFront}
 use Rattle.reached.specs.Calls.{Call, after, run}
-use Rattle.reached.specs.Presented.{inReply, renews}
 
 -- "From a fresh table, after any calls": the table s is one that calls make.
 pub record Reached (s : State) : Type 0 where
@@ -21,8 +20,8 @@ tickOf (Call.Remove id) = 0
 tickOf (Call.Join port id) = 0
 tickOf (Call.Leave port) = 0
 tickOf (Call.Challenge port room) = 0
-tickOf (Call.Reply port text) = 0
-tickOf (Call.Renew port number count seed password text) = 0
+tickOf (Call.Offer port password) = 0
+tickOf (Call.OfferRenewal port number count seed new password) = 0
 tickOf Call.Tick = 1
 
 unfoldable pub ticks : List Call → ℕ
@@ -37,19 +36,19 @@ quiet p i (Call.Remove id) = not (eqb id i)
 quiet p i (Call.Join port id) = not (eqb port p)
 quiet p i (Call.Leave port) = not (eqb port p)
 quiet p i (Call.Challenge port room) = true
-quiet p i (Call.Reply port text) = not (eqb port p)
-quiet p i (Call.Renew port number count seed password text) = not (eqb port p)
+quiet p i (Call.Offer port password) = not (eqb port p)
+quiet p i (Call.OfferRenewal port number count seed new password) = not (eqb port p)
 quiet p i Call.Tick = true
 
--- R-1, "an account keeps its algorithm, and renewal may change it": the call is no renewal, by Renew or by Reply, and does not remove the account i.
+-- R-1, "an account keeps its algorithm, and renewal may change it": the call is no renewal, and does not remove the account i.
 abbrev pub keepsAlgorithm : ℕ → Call → Bool
 keepsAlgorithm i (Call.Enrol id number count seed password) = true
 keepsAlgorithm i (Call.Remove id) = not (eqb id i)
 keepsAlgorithm i (Call.Join port id) = true
 keepsAlgorithm i (Call.Leave port) = true
 keepsAlgorithm i (Call.Challenge port room) = true
-keepsAlgorithm i (Call.Reply port text) = not (renews (inReply text))
-keepsAlgorithm i (Call.Renew port number count seed password text) = false
+keepsAlgorithm i (Call.Offer port password) = true
+keepsAlgorithm i (Call.OfferRenewal port number count seed new password) = false
 keepsAlgorithm i Call.Tick = true
 
 -- The port p has the turn for the account i: it is in front of the account's line.
@@ -81,8 +80,8 @@ madeBy p (Call.Remove id) = false
 madeBy p (Call.Join port id) = eqb port p
 madeBy p (Call.Leave port) = eqb port p
 madeBy p (Call.Challenge port room) = eqb port p
-madeBy p (Call.Reply port text) = eqb port p
-madeBy p (Call.Renew port number count seed password text) = eqb port p
+madeBy p (Call.Offer port password) = eqb port p
+madeBy p (Call.OfferRenewal port number count seed new password) = eqb port p
 madeBy p Call.Tick = false
 
 abbrev pub joinsFor : ℕ → Call → Bool
@@ -91,8 +90,8 @@ joinsFor i (Call.Remove id) = false
 joinsFor i (Call.Join port id) = eqb id i
 joinsFor i (Call.Leave port) = false
 joinsFor i (Call.Challenge port room) = false
-joinsFor i (Call.Reply port text) = false
-joinsFor i (Call.Renew port number count seed password text) = false
+joinsFor i (Call.Offer port password) = false
+joinsFor i (Call.OfferRenewal port number count seed new password) = false
 joinsFor i Call.Tick = false
 
 -- R-4, "Calls of ports in other lines": the call is elsewhere, seen from the account i. It is no tick, it does not remove the account, the port
@@ -104,6 +103,6 @@ elsewhere i s (Call.Remove id) = not (eqb id i)
 elsewhere i s (Call.Join port id) = not (eqb id i)
 elsewhere i s (Call.Leave port) = not (standsIn port (lineOf i s))
 elsewhere i s (Call.Challenge port room) = true
-elsewhere i s (Call.Reply port text) = not (standsIn port (lineOf i s))
-elsewhere i s (Call.Renew port number count seed password text) = not (standsIn port (lineOf i s))
+elsewhere i s (Call.Offer port password) = not (standsIn port (lineOf i s))
+elsewhere i s (Call.OfferRenewal port number count seed new password) = not (standsIn port (lineOf i s))
 elsewhere i s Call.Tick = false

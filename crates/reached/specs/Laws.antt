@@ -39,7 +39,7 @@ use Rattle.reached.specs.LinesChanged.{
   join-once,
   lined-times,
 }
-use Rattle.reached.specs.EqualLaws.{table, join-alike, leave-alike, challenge-same, tick-equal, reply-alike, renew-alike, remove-alike, enrol-alike}
+use Rattle.reached.specs.EqualLaws.{table, join-alike, leave-alike, challenge-same, tick-equal, offer-alike, renewal-alike, remove-alike, enrol-alike}
 use Rattle.reached.specs.Outcome as Outcome
 use Rattle.reached.specs.Outcome.{Outcome, outcome}
 
@@ -166,11 +166,11 @@ alike-calls P l m a b e (Call.Leave port) =
     let r = leave-alike P l m (e .accounts) a b port in
     (ap checkedAnswer (r .answer), r .state)
 alike-calls P l m a b e (Call.Challenge port room) = (ap writtenAnswer (challenge-same P l m (e .accounts) a b port room), e)
-alike-calls P l m a b e (Call.Reply port text) =
-    let r = reply-alike P l m (e .accounts) a b port text in
+alike-calls P l m a b e (Call.Offer port password) =
+    let r = offer-alike P l m (e .accounts) a b port password in
     (ap repliedAnswer (r .answer), r .state)
-alike-calls P l m a b e (Call.Renew port number count seed password text) =
-    let r = renew-alike P l m (e .accounts) a b port number count seed password text in
+alike-calls P l m a b e (Call.OfferRenewal port number count seed new password) =
+    let r = renewal-alike P l m (e .accounts) a b port number count seed new password in
     (ap repliedAnswer (r .answer), r .state)
 alike-calls P l m a b e Call.Tick = (refl, tick-equal P l m (e .accounts) a b)
 

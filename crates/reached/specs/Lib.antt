@@ -1,8 +1,10 @@
 -- Runs of calls, equal tables, and the laws of the tables that calls make: what is found in their rooms and lines, what a call can do to them, what stays.
--- Made, Presented, InTurn, Day and SeedsHad have the words of the demands on tables.
+-- Made, Offered, ReadAndOffered, OldCalls, InTurn, Day and SeedsHad have the words of the demands on tables.
 pub mod Calls
-pub mod Presented
-pub mod PresentedLaws
+pub mod Offered
+pub mod OfferedLaws
+pub mod ReadAndOffered
+pub mod OldCalls
 pub mod Equal
 pub mod RoomsFound
 pub mod RoomsChanged

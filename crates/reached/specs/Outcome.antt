@@ -9,7 +9,6 @@ use lib.Dec.{eqb, leb}
 use lib.ListN.{length, take, length-map, length-take}
 use Rattle.refusal.specs.declared.Refusal.{Refusal}
 use Rattle.refusal.specs.declared.Checked.{Checked}
-use Rattle.refusal.specs.Numbers.{passwordIn}
 use Rattle.refusal.specs.Checks.{unless}
 use Rattle.text.specs.Kinds.{isUpper, isLower, isLetter, isDigit, lowerOf}
 use Rattle.text.specs.Tests.{every, both}
@@ -24,10 +23,10 @@ use Rattle.table.specs.Table.{State, freeRoom, placeOf, holds, isThere, lineOf,
 use Rattle.accounts.specs.Accounts.{withValues, newRoom, renewedRoom, lowered, isOneOf}
 use Rattle.table.specs.TableChecks.{accountThere}
 use Rattle.table.specs.Steps as Steps
-use Rattle.table.specs.Steps.{After, enrolChecked, joinChecked, leaveChecked, turnChecked, offered}
+use Rattle.table.specs.Steps.{After, enrolChecked, joinChecked, leaveChecked, turnChecked, compared}
 use Rattle.reached.specs.Calls.{Call, after}
-use Rattle.reached.specs.Presented.{Presented, inReply, inRenew, renews, tableChecked, textChecked, presentIn, nextOf, presents}
-use Rattle.reached.specs.PresentedLaws.{renewal-checked, reply-presents, renew-presents}
+use Rattle.reached.specs.Offered.{Offered, renews, offerChecked, presentIn, nextOf, offers}
+use Rattle.reached.specs.OfferedLaws.{renewal-checked, offer-offers, renewal-offers}
 use Rattle.reached.specs.InTurn.{tickOf, quiet, keepsAlgorithm, elsewhere}
 use Rattle.reached.specs.Made.{isKept, SeedGood, Different, AccountGood}
 use Rattle.reached.specs.SeedsHad.{keepsAccount}
@@ -35,7 +34,7 @@ use Rattle.reached.specs.SeedLaws.{SeedStep, none-take, different-take, 
 use Rattle.refusal.specs.Laws.{must-good, both-good}
 use Rattle.table.specs.StepLaws.{enrol-passed, join-passed, turn-passed, renew-passed}
 
--- What the checks of Challenge, Reply and Renew establish.
+-- What the checks of a turn establish.
 pub record TurnGood (port : ℕ) (s : State) : Type 0 where
   pub known : port ≤ 3
   pub inside : waits port s ≡ true
@@ -102,7 +101,7 @@ seed-good seed e =
     let good = good-seed seed e in
     record { from = rw length-map (good .0); to = rw length-map (good .1); kept = seed-lower seed (good .2) }
 
--- What Enrol and Renew store is good, if the older seeds are seven at most, good and different, and none of them is the new one.
+-- What Enrol and a renewal store is good, if the older seeds are seven at most, good and different, and none of them is the new one.
 values-good : (id : ℕ) (older : List (List ℕ)) (number count : ℕ) (seed : List ℕ) (password : ℕ) → (leb 2 count && leb count 9999) ≡ true
     → seedChecked seed ≡ Checked.Good → length older ≤ 7 → Each SeedGood older → isOneOf (map lowerOf seed) older ≡ false → Different older
     → AccountGood (withValues id older number count seed password)
@@ -123,7 +122,7 @@ new-good : (id number count : ℕ) (seed password : List ℕ) → (leb 2 count &
 unfolding isOneOf
 new-good id number count seed password e f = values-good id [] number count seed (numberOf password) e f (omega arith) tt refl tt
 
--- Renew: they are the first seven of those that the account remembered.
+-- A renewal: they are the first seven of those that the account remembered.
 renewed-good : (old : Room) (number count : ℕ) (seed : List ℕ) (password : ℕ) → (leb 2 count && leb count 9999) ≡ true
     → seedChecked seed ≡ Checked.Good → isOneOf (map lowerOf seed) (remembered old) ≡ false → AccountGood old
     → AccountGood (renewedRoom old number count seed password)
@@ -191,11 +190,11 @@ turn-good port s e =
       unused = ltb-true 1 (ownAccount port s .count) (passed .unused);
     }
 
-offered-outcome : (c : Call) (port password : ℕ) (next : Room) (s : State) → tickOf c ≡ 0 → TurnGood port s → NotBy c port → Outside c s port
+compared-outcome : (c : Call) (port password : ℕ) (next : Room) (s : State) → tickOf c ≡ 0 → TurnGood port s → NotBy c port → Outside c s port
     → next .id ≡ ownAccount port s .id → (AccountGood (ownAccount port s) → AccountGood next)
-    → Kept c (ownAccount port s) next → SeedStep (ownAccount port s) next → Outcome c s (offered port password next s .state)
-unfolding offered
-offered-outcome c port password next s z g n o i a k x =
+    → Kept c (ownAccount port s) next → SeedStep (ownAccount port s) next → Outcome c s (compared port password next s .state)
+unfolding compared
+compared-outcome c port password next s z g n o i a k x =
     go (eqb (hash (ownAccount port s .algorithm) (bytesOf password)) (ownAccount port s .password))
   where
     go : (t : Bool) → Outcome c s (cond t (Steps.accepted port next s) (Steps.rejected port s) .state)
@@ -212,47 +211,43 @@ lowered-good old password unused good = record {
   different = good .different;
 }
 
--- What is presented: nothing where it is refused, else the password is offered.
+-- What is offered: nothing where it is refused, else the password is compared.
 module _ (c : Call) (port : ℕ) (s : State) (z : tickOf c ≡ 0) (n : NotBy c port) (o : Outside c s port) where
   abbrev old : Room
   old = ownAccount port s
 
-  passed-outcome : (what : Presented) → ((i : ℕ) → keepsAlgorithm i c ≡ true → renews what ≡ false)
-      → tableChecked port what s ≡ Checked.Good → textChecked what ≡ Checked.Good
-      → Outcome c s (offered port (presentIn what) (nextOf what old) s .state)
-  passed-outcome (Presented.Login present) k e f =
+  passed-outcome : (what : Offered) → ((i : ℕ) → keepsAlgorithm i c ≡ true → renews what ≡ false)
+      → offerChecked port what s ≡ Checked.Good → Outcome c s (compared port (presentIn what) (nextOf what old) s .state)
+  passed-outcome (Offered.Login password) k e =
       let g = turn-good port s (both-good (turnChecked port s) Checked.Good e .0) in
-      offered-outcome c port (passwordIn present) (lowered old (passwordIn present)) s z g n o refl (lowered-good old (passwordIn present) (g .unused))
+      compared-outcome c port password (lowered old password) s z g n o refl (lowered-good old password (g .unused))
       (λ i q. (refl, refl)) (SeedStep.stayed refl)
-  passed-outcome (Presented.Renewal number count seed new present) k e f =
-      let passed = renew-passed port number count seed s (sym (renewal-checked port number count seed new present s) ∙ e) in
+  passed-outcome (Offered.Renewal number count seed new password) k e =
+      let passed = renew-passed port number count seed s (sym (renewal-checked port number count seed new password s) ∙ e) in
       let other = not-true (isOneOf (map lowerOf seed) (remembered old)) (must-good _ _ (passed .new)) in
-      offered-outcome c port (passwordIn present) (renewedRoom old number count seed (passwordIn new)) s z (turn-good port s (passed .turn)) n o refl
-      (renewed-good old number count seed (passwordIn new) (passed .within) (passed .good) other) (λ i q. absurd (true≢false (k i q)))
+      compared-outcome c port password (renewedRoom old number count seed new) s z (turn-good port s (passed .turn)) n o refl
+      (renewed-good old number count seed new (passed .within) (passed .good) other) (λ i q. absurd (true≢false (k i q)))
       (SeedStep.renewed other refl)
-  passed-outcome (Presented.Refused why) k e f = let y : _≡_ {A = ℕ} 0 1 = cc in absurd (omega arith)
 
-  presents-outcome : (what : Presented) → ((i : ℕ) → keepsAlgorithm i c ≡ true → renews what ≡ false) → Outcome c s (presents port what s .state)
-  unfolding presents
-  presents-outcome what k =
-      checked-outcome Replied.Refused c s (unless Checked.Refused (tableChecked port what s) (textChecked what)) _ z
-      (λ e. let passed = both-good (tableChecked port what s) (textChecked what) e in passed-outcome what k (passed .0) (passed .1))
+  offers-outcome : (what : Offered) → ((i : ℕ) → keepsAlgorithm i c ≡ true → renews what ≡ false) → Outcome c s (offers port what s .state)
+  unfolding offers
+  offers-outcome what k = checked-outcome Replied.Refused c s (offerChecked port what s) _ z (passed-outcome what k)
 
-reply-outcome : (port : ℕ) (text : List ℕ) (s : State) → Outcome (Call.Reply port text) s (Steps.reply port text s .state)
-reply-outcome port text s =
-    subst (λ (r : After Replied). Outcome (Call.Reply port text) s (r .state)) (sym (reply-presents port text s))
-    (presents-outcome (Call.Reply port text) port s refl (λ p i q. not-true (eqb port p) q) (λ i q. not-true (standsIn port (lineOf i s)) q)
-    (inReply text) (λ i q. not-true (renews (inReply text)) q))
+offer-outcome : (port password : ℕ) (s : State) → Outcome (Call.Offer port password) s (Steps.offer port password s .state)
+offer-outcome port password s =
+    subst (λ (r : After Replied). Outcome (Call.Offer port password) s (r .state)) (sym (offer-offers port password s))
+    (offers-outcome (Call.Offer port password) port s refl (λ p i q. not-true (eqb port p) q) (λ i q. not-true (standsIn port (lineOf i s)) q)
+    (Offered.Login password) (λ i q. refl))
 
-renew-outcome : (port number count : ℕ) (seed new text : List ℕ) (s : State)
-    → Outcome (Call.Renew port number count seed new text) s (Steps.renew port number count seed new text s .state)
-renew-outcome port number count seed new text s =
-    subst (λ (r : After Replied). Outcome renewal s (r .state)) (sym (renew-presents port number count seed new text s))
-    (presents-outcome renewal port s refl (λ p i q. not-true (eqb port p) q) (λ i q. not-true (standsIn port (lineOf i s)) q)
-    (inRenew number count seed new text) (λ i q. absurd (false≢true q)))
+renewal-outcome : (port number count : ℕ) (seed : List ℕ) (new password : ℕ) (s : State)
+    → Outcome (Call.OfferRenewal port number count seed new password) s (Steps.offerRenewal port number count seed new password s .state)
+renewal-outcome port number count seed new password s =
+    subst (λ (r : After Replied). Outcome renewal s (r .state)) (sym (renewal-offers port number count seed new password s))
+    (offers-outcome renewal port s refl (λ p i q. not-true (eqb port p) q) (λ i q. not-true (standsIn port (lineOf i s)) q)
+    (Offered.Renewal number count seed new password) (λ i q. absurd (false≢true q)))
   where
     renewal : Call
-    renewal = Call.Renew port number count seed new text
+    renewal = Call.OfferRenewal port number count seed new password
 
 -- Every call, on every table.
 pub outcome : (c : Call) (s : State) → Outcome c s (after c s)
@@ -261,6 +256,6 @@ outcome (Call.Remove id) s = remove-outcome id s
 outcome (Call.Join port id) s = join-outcome port id s
 outcome (Call.Leave port) s = leave-outcome port s
 outcome (Call.Challenge port room) s = Outcome.nothing refl
-outcome (Call.Reply port text) s = reply-outcome port text s
-outcome (Call.Renew port number count seed password text) s = renew-outcome port number count seed password text s
+outcome (Call.Offer port password) s = offer-outcome port password s
+outcome (Call.OfferRenewal port number count seed new password) s = renewal-outcome port number count seed new password s
 outcome Call.Tick s = Outcome.ticked refl (λ i. refl)

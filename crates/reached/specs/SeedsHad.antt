@@ -7,7 +7,7 @@ use lib.Dec.{eqb}
 use Rattle.text.specs.Tests.{same}
 use Rattle.table.specs.Table.{State, accountOf}
 use Rattle.reached.specs.Calls.{Call, Answer, answer, after}
-use Rattle.reached.specs.Presented.{Presented, Presents, renews}
+use Rattle.reached.specs.Offered.{Offered, Offers, renews}
 use Rattle.reached.specs.InTurn.{HasTurn}
 
 -- "Remove forgets them": the call does not remove the account i.
@@ -17,16 +17,16 @@ keepsAccount i (Call.Remove id) = not (eqb id i)
 keepsAccount i (Call.Join port id) = true
 keepsAccount i (Call.Leave port) = true
 keepsAccount i (Call.Challenge port room) = true
-keepsAccount i (Call.Reply port text) = true
-keepsAccount i (Call.Renew port number count seed password text) = true
+keepsAccount i (Call.Offer port password) = true
+keepsAccount i (Call.OfferRenewal port number count seed new password) = true
 keepsAccount i Call.Tick = true
 
--- The call renews the account i: it is Renew, or R-6's Reply with an `init` text, made by the port that has the turn for the account, and is accepted.
+-- The call renews the account i: a renewal is offered, by the port that has the turn for the account, and is accepted.
 pub record Renews (i : ℕ) (s : State) (c : Call) : Type 0 where
   pub port : ℕ
   pub count : ℕ
-  pub what : Presented
-  pub presented : Presents port what c
+  pub what : Offered
+  pub offered : Offers port what c
   pub renewal : renews what ≡ true
   pub turn : HasTurn port i s
   pub accepted : answer c s ≡ Answer.Count count

@@ -1,5 +1,5 @@
--- What the text of a reply says, for every text: plain without a colon; refused with 30, 34 or 35 exactly in these cases; and otherwise a login or a
--- renewal exactly if it is laid out as one, each part with its own meaning.
+-- What the text of a reply says, for every text: plain without a colon; otherwise refused with 30, 34 or 35, or laid out as a login or a renewal, each
+-- part with its own meaning. And which texts are read to a login.
 use Prim.Native.Nat.{ℕ, zero, suc, _+_, _-_, _≤_, _<_}
 use mathlib.Core.Path.{_≡_, refl, sym, _∙_, ap}
 use mathlib.Core.Logic.{_↔_}
@@ -22,8 +22,20 @@ use Rattle.extended.specs.declared.reply_types.ReplyType.{ReplyType}
 use Rattle.extended.specs.declared.reply_types.Typed.{Typed}
 use Rattle.extended.specs.declared.reply_texts.ReplyText.{ReplyText}
 use Rattle.extended.specs.ReplyTypes.{typeName, typed, isInit}
-use Rattle.extended.specs.ReplyTexts.{partAt, colons, colonsOf, passwordBy, layoutChecked, extendedOf, replyTextOf}
-use Rattle.readback.specs.LaidOut.{OfType, TwoParts, FourParts, OfPassword, ReadAs, RefusedBy, by-30, by-34, by-35}
+use Rattle.extended.specs.ReplyTexts.{
+  partAt,
+  colons,
+  colonsOf,
+  passwordBy,
+  Said,
+  layoutChecked,
+  extendedOf,
+  saidIn,
+  withRead,
+  readTo,
+  replyTextOf,
+}
+use Rattle.readback.specs.LaidOut.{OfType, TwoParts, FourParts, OfPassword}
 use Rattle.readback.specs.ReplyRefusals.{never, unread-refused}
 use Rattle.readback.specs.PartsRead.{
   no-colons,
@@ -36,14 +48,19 @@ use Rattle.readback.specs.PartsRead.{
   part-there,
 }
 use Rattle.readback.specs.PartMeaning.{part-accepted}
-use Rattle.readback.specs.TypedParts.{found-by, type-there, colons-there, parts-refused, two-read, renewalBy, four-read}
+use Rattle.readback.specs.TypedParts.{found-by, type-there, colons-there, parts-refused, two-said, renewalBy, four-said}
+use Rattle.readback.specs.ReadTo.{login-from}
 
 -- ---- plain texts
 
--- "others are plain": a text without a colon says what it said before
-pub plain-read : (text : List ℕ) → colons text ≡ 0 → replyTextOf text ≡ ReplyText.Login (readingOf text)
+-- "others are plain": a text without a colon says what it said before, and is read so
+plain-said : (text : List ℕ) → colons text ≡ 0 → saidIn text ≡ Said.Login (readingOf text)
+unfolding saidIn
+plain-said text e = rw (eq-eqb (colons text) 0 e)
+
+pub plain-read : (text : List ℕ) → colons text ≡ 0 → replyTextOf text ≡ withRead (readingOf text) ReplyText.Login
 unfolding replyTextOf
-plain-read text e = rw (eq-eqb (colons text) 0 e)
+plain-read text e = ap readTo (plain-said text e)
 
 digits-hex-all : (u : List ℕ) → sixteenDigits u ≡ true → every isHexDigit u ≡ true
 unfolding sixteenDigits
@@ -119,13 +136,13 @@ layout text = by (colons text) refl
 
 -- ---- what each of these says
 
-said-long : (text : List ℕ) → 1 ≤ colons text → 256 < length text → replyTextOf text ≡ ReplyText.Refused Refusal.ReplyLong
-unfolding replyTextOf extendedOf layoutChecked
+said-long : (text : List ℕ) → 1 ≤ colons text → 256 < length text → saidIn text ≡ Said.Refused Refusal.ReplyLong
+unfolding saidIn extendedOf layoutChecked
 said-long text some long = rw (ne-eqb (colons text) 0 (λ z. omega arith), lt-leb (length text) 256 long)
 
 said-none : (text : List ℕ) → 1 ≤ colons text → length text ≤ 256 → ((kind : ReplyType) → OfType kind text → ⊥)
-    → replyTextOf text ≡ ReplyText.Refused Refusal.TypeUnknown
-unfolding replyTextOf extendedOf layoutChecked
+    → saidIn text ≡ Said.Refused Refusal.TypeUnknown
+unfolding saidIn extendedOf layoutChecked
 said-none text some few none =
     rw (ne-eqb (colons text) 0 (λ z. omega arith), le-leb (length text) 256 few, by (typed (partAt text 0)) refl)
   where
@@ -133,93 +150,39 @@ said-none text some few none =
     by Typed.Unknown q = q
     by (Typed.Is kind) q = absurd (none kind (of-type text (colons text - 1) kind (omega arith) q))
 
-abbrev pub answerBy : (text : List ℕ) → Layout text → ReplyText
-answerBy text (is-plain z) = ReplyText.Login (readingOf text)
-answerBy text (is-long some long) = ReplyText.Refused Refusal.ReplyLong
-answerBy text (of-none some few none) = ReplyText.Refused Refusal.TypeUnknown
-answerBy text (parted-wrong kind few o other) = ReplyText.Refused Refusal.PartsWrong
-answerBy text (in-two kind present few t) = ReplyText.Login (passwordBy kind present)
+abbrev pub answerBy : (text : List ℕ) → Layout text → Said
+answerBy text (is-plain z) = Said.Login (readingOf text)
+answerBy text (is-long some long) = Said.Refused Refusal.ReplyLong
+answerBy text (of-none some few none) = Said.Refused Refusal.TypeUnknown
+answerBy text (parted-wrong kind few o other) = Said.Refused Refusal.PartsWrong
+answerBy text (in-two kind present few t) = Said.Login (passwordBy kind present)
 answerBy text (in-four kind present parameters new few t) =
     renewalBy kind (length (typeName kind) + length present + 2) present parameters new
 
-pub answered : (text : List ℕ) (l : Layout text) → replyTextOf text ≡ answerBy text l
-answered text (is-plain z) = plain-read text z
+pub answered : (text : List ℕ) (l : Layout text) → saidIn text ≡ answerBy text l
+answered text (is-plain z) = plain-said text z
 answered text (is-long some long) = said-long text some long
 answered text (of-none some few none) = said-none text some few none
 answered text (parted-wrong kind few o other) = parts-refused kind text (o .0) (o .1) few other
-answered text (in-two kind present few t) = two-read kind text present t few
-answered text (in-four kind present parameters new few t) = four-read kind text present parameters new t few
-
--- ---- 30, 34 and 35, and no other refusal
-
-pub text-refused : (text : List ℕ) (why : Refusal) → (replyTextOf text ≡ ReplyText.Refused why) ↔ RefusedBy text why
-text-refused text why = (λ e. go (layout text) (sym (answered text (layout text)) ∙ e), back)
-  where
-    go : (l : Layout text) → answerBy text l ≡ ReplyText.Refused why → RefusedBy text why
-    go (is-plain z) e = never (cc)
-    go (is-long some long) e = by-30 (cc) some long
-    go (of-none some few none) e = by-34 (cc) some few none
-    go (parted-wrong kind few o other) e = by-35 (cc) few kind o other
-    go (in-two kind present few t) e = never (cc)
-    go (in-four kind present parameters new few t) e = never (cc)
-
-    back : RefusedBy text why → replyTextOf text ≡ ReplyText.Refused why
-    back (by-30 q some long) = said-long text some long ∙ ap ReplyText.Refused (sym q)
-    back (by-34 q some few none) = said-none text some few none ∙ ap ReplyText.Refused (sym q)
-    back (by-35 q few kind o other) = parts-refused kind text (o .0) (o .1) few other ∙ ap ReplyText.Refused (sym q)
-
--- each by itself
-pub long-text : (text : List ℕ) → (replyTextOf text ≡ ReplyText.Refused Refusal.ReplyLong) ↔ ((1 ≤ colons text) × (256 < length text))
-long-text text = (λ e. go (text-refused text Refusal.ReplyLong .0 e), λ h. said-long text (h .0) (h .1))
-  where
-    go : RefusedBy text Refusal.ReplyLong → (1 ≤ colons text) × (256 < length text)
-    go (by-30 q some long) = (some, long)
-    go (by-34 q some few none) = never (cc)
-    go (by-35 q few kind o other) = never (cc)
-
-pub type-unknown : (text : List ℕ) → (replyTextOf text ≡ ReplyText.Refused Refusal.TypeUnknown)
-    ↔ ((1 ≤ colons text) × (length text ≤ 256) × ((kind : ReplyType) → OfType kind text → ⊥))
-type-unknown text = (λ e. go (text-refused text Refusal.TypeUnknown .0 e), λ h. said-none text (h .0) (h .1) (h .2))
-  where
-    go : RefusedBy text Refusal.TypeUnknown → (1 ≤ colons text) × (length text ≤ 256) × ((kind : ReplyType) → OfType kind text → ⊥)
-    go (by-30 q some long) = never (cc)
-    go (by-34 q some few none) = (some, few, none)
-    go (by-35 q few kind o other) = never (cc)
-
-pub parts-wrong : (text : List ℕ) → (replyTextOf text ≡ ReplyText.Refused Refusal.PartsWrong)
-    ↔ ((length text ≤ 256) × (kind : ReplyType) × OfType kind text × (colons text ≡ colonsOf kind → ⊥))
-parts-wrong text = (
-  λ e. go (text-refused text Refusal.PartsWrong .0 e),
-  λ h. parts-refused (h .1) text (h .2 .0) (h .2 .1) (h .0) (h .3),
-)
-  where
-    go : RefusedBy text Refusal.PartsWrong → (length text ≤ 256) × (kind : ReplyType) × OfType kind text × (colons text ≡ colonsOf kind → ⊥)
-    go (by-30 q some long) = never (cc)
-    go (by-34 q some few none) = never (cc)
-    go (by-35 q few kind o other) = (few, kind, o, other)
+answered text (in-two kind present few t) = two-said kind text present t few
+answered text (in-four kind present parameters new few t) = four-said kind text present parameters new t few
 
 -- ---- logins
 
-pub login-exactly : (text : List ℕ) → 1 ≤ colons text → (reading : Reading) → (replyTextOf text ≡ ReplyText.Login reading)
-    ↔ ((kind : ReplyType) × (present : List ℕ) × (length text ≤ 256) × TwoParts kind text present × ReadAs reading kind present)
-login-exactly text some reading = (
-  λ e. go (layout text) (sym (answered text (layout text)) ∙ e),
-  λ h. two-read (h .0) text (h .1) (h .3) (h .2) ∙ ap ReplyText.Login (h .4),
+-- a text with a colon is a login of a password exactly if its type's name, a colon and such a part are the whole text
+pub login-accepted : (text : List ℕ) → 1 ≤ colons text → (p : ℕ) → (replyTextOf text ≡ ReplyText.Login p)
+    ↔ ((kind : ReplyType) × (present : List ℕ) × (length text ≤ 256) × TwoParts kind text present × OfPassword p kind present)
+unfolding replyTextOf
+login-accepted text some p = (
+  λ e. go (layout text) (sym (answered text (layout text)) ∙ login-from (saidIn text) p .0 e),
+  λ h. ap readTo (two-said (h .0) text (h .1) (h .3) (h .2) ∙ ap Said.Login (part-accepted (h .0) (h .1) p .1 (h .4))),
 )
   where
-    go : (l : Layout text) → answerBy text l ≡ ReplyText.Login reading
-        → (kind : ReplyType) × (present : List ℕ) × (length text ≤ 256) × TwoParts kind text present × (passwordBy kind present ≡ reading)
+    go : (l : Layout text) → answerBy text l ≡ Said.Login (Reading.Password p)
+        → (kind : ReplyType) × (present : List ℕ) × (length text ≤ 256) × TwoParts kind text present × OfPassword p kind present
     go (is-plain z) e = absurd (omega arith)
     go (is-long more long) e = never (cc)
     go (of-none more few none) e = never (cc)
     go (parted-wrong kind few o other) e = never (cc)
-    go (in-two kind present few t) e = (kind, present, few, t, cc)
+    go (in-two kind present few t) e = (kind, present, few, t, part-accepted kind present p .0 (cc))
     go (in-four kind present parameters new few t) e = never (cc)
-
--- so a text with a colon is a login of a password exactly if its type's name, a colon and such a part are the whole text
-pub login-accepted : (text : List ℕ) → 1 ≤ colons text → (p : ℕ) → (replyTextOf text ≡ ReplyText.Login (Reading.Password p))
-    ↔ ((kind : ReplyType) × (present : List ℕ) × (length text ≤ 256) × TwoParts kind text present × OfPassword p kind present)
-login-accepted text some p = (
-  λ e. let h = login-exactly text some (Reading.Password p) .0 e in (h .0, h .1, h .2, h .3, part-accepted (h .0) (h .1) p .0 (h .4)),
-  λ h. login-exactly text some (Reading.Password p) .1 (h .0, h .1, h .2, h .3, part-accepted (h .0) (h .1) p .1 (h .4)),
-)

@@ -1,4 +1,4 @@
--- 02, R-6: "A written extended reply reads back as the same one", for all four types and all that the writer takes.
+-- 02, R-6 and R-7: "A written extended reply reads back as the same one", for all four types and all that the writer takes.
 use Prim.Native.Nat.{ℕ, _^_, _≤_, _<_}
 use mathlib.Core.Path.{_≡_, refl, sym, _∙_, ap, ap₂, subst}
 use mathlib.Core.Bool.{Bool, true, false, true≢false, cond, _||_}
@@ -16,7 +16,7 @@ use Rattle.text.specs.KindLaws.{past-space-solid}
 use Rattle.text.specs.Quoted.{codes}
 use Rattle.text.specs.Tests.{every, every-weaker, either}
 use Rattle.text.specs.Scan.{unspaced}
-use Rattle.text.specs.Digits.{isHex as isHexDigit, numberOf}
+use Rattle.text.specs.Digits.{isHex as isHexDigit}
 use Rattle.text.specs.DigitLaws.{digits-hex}
 use Rattle.text.specs.Counts.{widthOf, decimalOf}
 use Rattle.text.specs.CountLaws.{width-few, length-decimal}
@@ -24,7 +24,7 @@ use Rattle.text.specs.Put.{leaves}
 use Rattle.text.specs.PutLaws.{written-front}
 use Rattle.password.specs.declared.algorithm.Algorithm.{Algorithm}
 use Rattle.password.specs.Algorithm.{algorithmName, numbered, algorithmIn}
-use Rattle.password.specs.AlgorithmLaws.{numbered-number, name-named, name-few}
+use Rattle.password.specs.AlgorithmLaws.{numbered-number, name-few}
 use Rattle.password.specs.PhraseAndSeed.{plain, seedChecked}
 use Rattle.password.specs.PhraseAndSeedLaws.{good-seed}
 use Rattle.hex.specs.Hex.{hexOf, hexReading}
@@ -36,8 +36,7 @@ use Rattle.accounts.specs.Accounts.{newChecked}
 use Rattle.extended.specs.declared.reply_types.ReplyType.{ReplyType}
 use Rattle.extended.specs.declared.reply_texts.ReplyText.{ReplyText}
 use Rattle.extended.specs.ReplyTypes.{typeName, typeNumber, typeNumbered, typeChecked, typeIn, isInit, isHex}
-use Rattle.extended.specs.Parameters.{nameNumber}
-use Rattle.extended.specs.ReplyTexts.{colons, passwordBy, seedPart}
+use Rattle.extended.specs.ReplyTexts.{colons, passwordBy, Said, readTo, replyTextOf, seedPart}
 use Rattle.extended.specs.ReplyWriting.{
   passwordText,
   loginText,
@@ -49,15 +48,16 @@ use Rattle.extended.specs.ReplyWriting.{
   extendedWritten,
 }
 use Rattle.extended.specs.ReplyWritingLaws.{password-few, login-few, length-tail, good-values}
-use Rattle.readback.specs.LaidOut.{TwoParts, FourParts, ReadAs, Spaced, RenewalParts, Says}
-use Rattle.readback.specs.CountRead.{digits-decimal, decimal-count, decimal-number}
+use Rattle.readback.specs.LaidOut.{TwoParts, FourParts, OfPassword, Spaced, RenewalParts, Says}
+use Rattle.readback.specs.CountRead.{digits-decimal}
 use Rattle.readback.specs.ChallengeRead.{plain-high, digit-high}
 use Rattle.readback.specs.WordsRead.{places-words}
 use Rattle.readback.specs.ReplyRead.{words-tokens, six-written-read, digits-written-read}
 use Rattle.readback.specs.PartsRead.{no-colons, kind-no-colons, colons-append, tokens-every, white-in-part, words-in-part}
-use Rattle.readback.specs.TypedParts.{found-by, type-known, two-read}
-use Rattle.readback.specs.RenewalMeaning.{renewal-exactly}
-use Rattle.readback.specs.ParametersRead.{solid-last, solid-ends, three-words}
+use Rattle.readback.specs.TypedParts.{found-by, type-known, two-said}
+use Rattle.readback.specs.PartMeaning.{part-accepted}
+use Rattle.readback.specs.RenewalMeaning.{renewal-accepted}
+use Rattle.readback.specs.ParametersRead.{solid-last, solid-ends, three-words, name-read, count-read}
 
 -- ---- a password
 
@@ -167,15 +167,14 @@ module _ (kind : ReplyType) (password : ℕ) (algorithm : Algorithm) (count : �
 module _ (kind : ReplyType) (password number count : ℕ) (seed : List ℕ) (new : ℕ) (small : password < 2 ^ 64) (new-small : new < 2 ^ 64) where
   -- what the reader is to say, by where the seed starts
   abbrev saying : Bool → ℕ → ReplyText
-  saying init start =
-      cond init (ReplyText.Renewal number count start (length seed) (Reading.Password new) (Reading.Password password))
-      (ReplyText.Login (Reading.Password password))
+  saying init start = cond init (ReplyText.Renewal number count start (length seed) new password) (ReplyText.Login password)
 
   login-written-read : isInit kind ≡ false → Says kind password number count seed new (loginText kind password)
+  unfolding replyTextOf
   login-written-read e = record {
     start = 0;
-    said = two-read kind (loginText kind password) (passwordText kind password) (login-parts kind password e) (omega (arith, login-few kind password))
-        ∙ ap ReplyText.Login (password-read kind password small)
+    said = ap readTo (two-said kind (loginText kind password) (passwordText kind password) (login-parts kind password e)
+        (omega (arith, login-few kind password)) ∙ ap Said.Login (password-read kind password small))
         ∙ sym (ap (λ (k : Bool). saying k 0) e);
     seed-there = λ f. absurd (true≢false (sym f ∙ e));
   }
@@ -191,7 +190,7 @@ module _ (kind : ReplyType) (password number count : ℕ) (seed : List ℕ) (new
     good = good-values number count seed checked .2
 
     made : RenewalParts (loginText kind password ++ tailText kind algorithm count seed new) number count seed
-        (ReadAs (Reading.Password new)) (ReadAs (Reading.Password password))
+        (OfPassword new) (OfPassword password)
     made = record {
       kind = kind;
       present-part = passwordText kind password;
@@ -202,15 +201,15 @@ module _ (kind : ReplyType) (password number count : ℕ) (seed : List ℕ) (new
       few = omega (arith, whole-length kind password algorithm count seed new low good);
       parts = renewal-parts kind password algorithm count seed new low good e;
       spaced = spaced algorithm count seed low good;
-      algorithm-is = ap nameNumber (name-named algorithm) ∙ numbered-number number algorithm (good-values number count seed checked .1);
-      count-is = ap (λ (k : Bool). cond k (numberOf 10 (decimalOf count)) 0) (decimal-count count low) ∙ decimal-number count low;
-      new-is = password-read kind new new-small;
-      present-is = password-read kind password small;
+      algorithm-is = name-read algorithm ∙ numbered-number number algorithm (good-values number count seed checked .1);
+      count-is = count-read count low;
+      new-is = part-accepted kind (passwordText kind new) new .0 (password-read kind new new-small);
+      present-is = part-accepted kind (passwordText kind password) password .0 (password-read kind password small);
     }
 
     renewal-written-read : Says kind password number count seed new (loginText kind password ++ tailText kind algorithm count seed new)
     renewal-written-read =
-        let read = renewal-exactly _ number count seed (Reading.Password new) (Reading.Password password) .1 made in
+        let read = renewal-accepted _ number count seed new password .1 made in
         record { start = read .0; said = read .1 ∙ sym (ap (λ (k : Bool). saying k (read .0)) e); seed-there = λ _. read .2 }
 
   -- for every type, and all that the writer takes
@@ -266,9 +265,8 @@ says-one : (kind : ReplyType) (text : List ℕ) (p number count : ℕ) (seed : L
 says-one kind text p number count seed new p′ number′ count′ seed′ new′ s s′ = by (isInit kind) refl (sym (s .said) ∙ s′ .said)
   where
     by : (k : Bool) → isInit kind ≡ k
-        → cond k (ReplyText.Renewal number count (s .start) (length seed) (Reading.Password new) (Reading.Password p)) (ReplyText.Login (Reading.Password p))
-        ≡ cond k (ReplyText.Renewal number′ count′ (s′ .start) (length seed′) (Reading.Password new′) (Reading.Password p′))
-        (ReplyText.Login (Reading.Password p′))
+        → cond k (ReplyText.Renewal number count (s .start) (length seed) new p) (ReplyText.Login p)
+        ≡ cond k (ReplyText.Renewal number′ count′ (s′ .start) (length seed′) new′ p′) (ReplyText.Login p′)
         → (p ≡ p′) × (k ≡ true → (number ≡ number′) × (count ≡ count′) × (seed ≡ seed′) × (new ≡ new′))
     by true e f =
         let starts : s .start ≡ s′ .start = cc in

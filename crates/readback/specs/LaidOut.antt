@@ -1,13 +1,14 @@
--- 02, R-6, and RFC 2243: how a text has to be laid out to have the mark, or to be an extended reply, and what is refused: the words in which `demands`
--- ExtendedTexts says exactly which texts do. Parts are told by what stands in them, and not by how a reader finds them.
+-- 02, R-6 and R-7, and RFC 2243: how a text has to be laid out to have the mark, or to be an extended reply, and what is refused: the words in which
+-- `demands` ExtendedTexts says exactly which texts do. Parts are told by what stands in them, and not by how a reader finds them.
 use Prim.Native.Nat.{ℕ, _^_, _≤_, _<_}
 use mathlib.Core.Path.{_≡_}
 use mathlib.Core.Bool.{Bool, true, false, cond}
 use mathlib.Core.List.{List, [], _∷_, _++_, map}
-use lib.Dec.{ltb}
+use lib.Dec.{eqb, ltb}
 use lib.ListN.{length, drop}
 use Rattle.refusal.specs.declared.Refusal.{Refusal}
 use Rattle.refusal.specs.declared.Reading.{Reading}
+use Rattle.refusal.specs.Numbers.{listingOf}
 use Rattle.text.specs.Kinds.{lowerOf, isWhite, isSolid, isBlank, inToken}
 use Rattle.text.specs.Tests.{every}
 use Rattle.text.specs.Scan.{runOf, tokens, unspaced}
@@ -17,7 +18,7 @@ use Rattle.hex.specs.Hex.{hexOf}
 use Rattle.dictionary.specs.Dictionary.{wordAt}
 use Rattle.sixwords.specs.Places.{allPlaces}
 use Rattle.sixwords.specs.Spelling.{sixWordsOf}
-use Rattle.reply.specs.Reply.{upperText}
+use Rattle.reply.specs.Reply.{upperText, readingOf}
 use Rattle.extended.specs.declared.reply_types.ReplyType.{ReplyType}
 use Rattle.extended.specs.declared.reply_texts.ReplyText.{ReplyText}
 use Rattle.extended.specs.ReplyTypes.{typeName, isInit, isHex}
@@ -112,22 +113,24 @@ pub record RenewalParts (text : List ℕ) (number count : ℕ) (seed : List ℕ)
   pub new-is : New kind new-part
   pub present-is : Present kind present-part
 
--- What such a text says: these values, the seed standing somewhere in it, and what the passwords are read as.
-abbrev pub SaysRenewal : List ℕ → ℕ → ℕ → List ℕ → Reading → Reading → Type 0
+-- What such a text is read to: these values, the seed standing somewhere in it, and these passwords.
+abbrev pub SaysRenewal : List ℕ → ℕ → ℕ → List ℕ → ℕ → ℕ → Type 0
 SaysRenewal text number count seed new present =
     (start : ℕ) × (replyTextOf text ≡ ReplyText.Renewal number count start (length seed) new present)
     × (seedPart text start (length seed) ≡ seed)
 
--- A text says what its writer was given: the password; for `init` types the new values and the new password too, the seed as the part of the
+-- A text is read to what its writer was given: the password; for `init` types the new values and the new password too, the seed as the part of the
 -- text where it stands.
 pub record Says (kind : ReplyType) (password number count : ℕ) (seed : List ℕ) (new : ℕ) (text : List ℕ) : Type 0 where
   pub start : ℕ
-  pub said : replyTextOf text
-      ≡ cond (isInit kind) (ReplyText.Renewal number count start (length seed) (Reading.Password new) (Reading.Password password))
-      (ReplyText.Login (Reading.Password password))
+  pub said : replyTextOf text ≡ cond (isInit kind) (ReplyText.Renewal number count start (length seed) new password) (ReplyText.Login password)
   pub seed-there : isInit kind ≡ true → seedPart text start (length seed) ≡ seed
 
 -- ---- refusals
+
+-- The number of a refusal is one of these.
+abbrev pub Between : ℕ → ℕ → Refusal → Type 0
+Between low high why = (low ≤ listingOf why .0) × (listingOf why .0 ≤ high)
 
 -- 32: "words known, pair sum wrong"
 pub record SumRefused (ws : List (List ℕ)) : Type 0 where
@@ -136,11 +139,23 @@ pub record SumRefused (ws : List (List ℕ)) : Type 0 where
   pub words : ws ≡ map wordAt ps
   pub none : (p : ℕ) → p < 2 ^ 64 → ws ≡ sixWordsOf p → ⊥
 
--- "an extended reply, of at most 256 bytes"; "34 unknown type, 35 a missing or extra part, both after 30"
+-- How many bytes a text may have: 128 where it is plain; "an extended reply, of at most 256 bytes".
+abbrev pub mostBytes : List ℕ → ℕ
+mostBytes text = cond (eqb (colons text) 0) 128 256
+
+-- "30, 34, 35, then 31 to 33 for the new password, then for the present one": a text with a colon as a whole; a plain one as it is read; and one of two
+-- parts, or of four, for a password that can't be read. For the present one only where the new one is a password.
 pub data RefusedBy (text : List ℕ) (why : Refusal) : Type 0 where
   by-30 : why ≡ Refusal.ReplyLong → 1 ≤ colons text → 256 < length text → RefusedBy text why
   by-34 : why ≡ Refusal.TypeUnknown → 1 ≤ colons text → length text ≤ 256 → ((kind : ReplyType) → OfType kind text → ⊥) → RefusedBy text why
   by-35 : why ≡ Refusal.PartsWrong → length text ≤ 256 → (kind : ReplyType) → OfType kind text → (colons text ≡ colonsOf kind → ⊥) → RefusedBy text why
+  by-plain : colons text ≡ 0 → readingOf text ≡ Reading.Refused why → RefusedBy text why
+  by-login : (kind : ReplyType) (present : List ℕ) → length text ≤ 256 → TwoParts kind text present
+      → ReadAs (Reading.Refused why) kind present → RefusedBy text why
+  by-new : (kind : ReplyType) (present parameters new : List ℕ) → length text ≤ 256 → FourParts kind text present parameters new
+      → ReadAs (Reading.Refused why) kind new → RefusedBy text why
+  by-present : (kind : ReplyType) (present parameters new : List ℕ) → length text ≤ 256 → FourParts kind text present parameters new
+      → (p : ℕ) → OfPassword p kind new → ReadAs (Reading.Refused why) kind present → RefusedBy text why
 
 -- What a text with a colon is refused with where it is to be plain: 30 over 128 bytes, and 33.
 abbrev pub colonRefused : List ℕ → Refusal

@@ -5,7 +5,9 @@ pub mod PartsRead
 pub mod TypedParts
 pub mod ParametersRead
 pub mod PartMeaning
+pub mod ReadTo
 pub mod ExtendedMeaning
+pub mod TextRefusals
 pub mod RenewalMeaning
 pub mod ExtendedRead
 pub mod PlacesRead

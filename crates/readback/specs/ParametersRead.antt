@@ -6,19 +6,23 @@ use mathlib.Core.Path.{_≡_, refl, sym, _∙_, ap, ap₂, subst}
 use mathlib.Core.Bool.{Bool, true, false, cond, not, _&&_}
 use mathlib.Core.List.{List, [], _∷_, _++_}
 use lib.Dec.{eqb}
-use lib.ListN.{length, take, drop, take-append-drop}
+use lib.ListN.{length, take, drop, length-append, length-drop, take-append-drop}
 use lib.Seq.{take-append-seam, length-take-le}
 use borrow.Author.Tests.{not-true, eqb-true}
 use Rattle.text.specs.Kinds.{isWhite, isSolid}
-use Rattle.text.specs.Tests.{every, every-append, both, same}
+use Rattle.text.specs.Tests.{every, every-append, both, cases, same, same-equal}
 use Rattle.text.specs.Scan.{runOf}
 use Rattle.text.specs.Quoted.{codes}
-use Rattle.text.specs.Counts.{isCount}
-use Rattle.password.specs.Algorithm.{algorithmName, named}
+use Rattle.text.specs.Digits.{numberOf}
+use Rattle.text.specs.Counts.{isCount, decimalOf}
+use Rattle.password.specs.declared.algorithm.Algorithm.{Algorithm}
+use Rattle.password.specs.Algorithm.{algorithmNumber, algorithmName, named}
+use Rattle.password.specs.AlgorithmLaws.{name-named}
 use Rattle.extended.specs.Parameters.{wordAt, wordAfter, nameAt, countAfter, seedAfter, nameNumber, countIn, trimmed, parametersOf}
 use Rattle.extended.specs.ReplyTexts.{seedPart}
-use Rattle.extended.specs.Laws.{trimmed-few, trimmed-white, all-count, last-counts}
+use Rattle.extended.specs.Laws.{trimmed-few, trimmed-white, all-count, last-counts, seed-starts-within}
 use Rattle.readback.specs.LaidOut.{Run, Spaced}
+use Rattle.readback.specs.CountRead.{decimal-count, decimal-number}
 use Rattle.readback.specs.StretchRead.{run-stops, run-of, stretch-there, past-there}
 
 -- of solid bytes the last is one
@@ -66,6 +70,29 @@ module _ (part name count seed : List ℕ) (s : Spaced part name count seed) whe
   unfolding parametersOf
   count-said = ap countIn (word-there part (countAfter part) count (s .past-count) (s .white₂) (s .from-seed) count-there (s .between₂))
 
+  -- behind the white space, the name, the count and the white space at either
+  pub start-said : parametersOf part .start ≡ length (s .white) + length name + length (s .white₁) + length count + length (s .white₂)
+  unfolding parametersOf
+  start-said =
+      omega (
+        arith,
+        seed-starts-within part,
+        length-drop (seedAfter part) part,
+        ap length seed-place,
+        length-append seed (s .white₃),
+        ap length (s .before .laid),
+        length-append (s .white) (s .from-name),
+        ap length (s .name-run .laid),
+        length-append name (s .past-name),
+        ap length (s .between .laid),
+        length-append (s .white₁) (s .from-count),
+        ap length (s .count-run .laid),
+        length-append count (s .past-count),
+        ap length (s .between₂ .laid),
+        length-append (s .white₂) (s .from-seed),
+        ap length (s .seed-laid),
+      )
+
   pub length-said : parametersOf part .len ≡ length seed
   unfolding parametersOf
   length-said = ap trimmed seed-place ∙ trimmed-white seed (s .white₃) (s .behind) ∙ all-count seed (s .seed-ends)
@@ -112,6 +139,29 @@ module _ (white name white₁ count white₂ seed white₃ : List ℕ) where
     seed-ends = ends;
     behind = w₃;
   }
+
+-- ---- a name and a word, whatever they are
+
+-- an algorithm's name is read as its number, and any other as 0
+pub name-read : (algorithm : Algorithm) → nameNumber (named (algorithmName algorithm)) ≡ algorithmNumber algorithm
+name-read algorithm = ap nameNumber (name-named algorithm)
+
+pub name-unknown : (name : List ℕ) → ((algorithm : Algorithm) → name ≡ algorithmName algorithm → ⊥) → nameNumber (named name) ≡ 0
+name-unknown name none = rw (other Algorithm.Md5, other Algorithm.Sha1)
+  where
+    other : (algorithm : Algorithm) → same name (algorithmName algorithm) ≡ false
+    other algorithm =
+        cases (same name (algorithmName algorithm)) (λ e. absurd (none algorithm (same-equal name (algorithmName algorithm) e))) (λ e. e)
+
+-- a count is read as the number that it is, as one that is written is, and what is no count as 0
+pub count-number : (word : List ℕ) → isCount word ≡ true → countIn word ≡ numberOf 10 word
+count-number word e = ap (λ (k : Bool). cond k (numberOf 10 word) 0) e
+
+pub count-read : (n : ℕ) → n ≤ 9999 → countIn (decimalOf n) ≡ n
+count-read n h = count-number (decimalOf n) (decimal-count n h) ∙ decimal-number n h
+
+pub count-unread : (word : List ℕ) → isCount word ≡ false → countIn word ≡ 0
+count-unread word e = ap (λ (k : Bool). cond k (numberOf 10 word) 0) e
 
 -- ---- "A missing one is empty"
 

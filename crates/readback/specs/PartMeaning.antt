@@ -1,9 +1,10 @@
 -- What a password part of an extended reply says: which passwords it is accepted as, and what each refusal of it means.
 use Prim.Native.Nat.{ℕ, _^_, _<_}
-use mathlib.Core.Path.{_≡_, sym, _∙_, ap}
+use mathlib.Core.Path.{_≡_, sym, _∙_, ap, subst}
 use mathlib.Core.Logic.{_↔_}
 use mathlib.Core.Bool.{Bool, true, false, cond}
 use mathlib.Core.List.{List, map}
+use native.Mathlib.Omega.{arith}
 use Rattle.refusal.specs.declared.Refusal.{Refusal}
 use Rattle.refusal.specs.declared.Reading.{Reading}
 use Rattle.text.specs.Kinds.{lowerOf}
@@ -18,9 +19,9 @@ use Rattle.reply.specs.Marked.{Marked}
 use Rattle.extended.specs.declared.reply_types.ReplyType.{ReplyType}
 use Rattle.extended.specs.ReplyTypes.{isHex}
 use Rattle.extended.specs.ReplyTexts.{passwordBy}
-use Rattle.readback.specs.LaidOut.{OfPassword, SumRefused}
+use Rattle.readback.specs.LaidOut.{OfPassword, Between, SumRefused}
 use Rattle.readback.specs.ReplyRead.{digits-accepted, six-accepted, six-read, six-unread}
-use Rattle.readback.specs.ReplyRefusals.{never, words-why, hex-why, marks-refused, sums-refused}
+use Rattle.readback.specs.ReplyRefusals.{words-why, hex-why, marks-refused, sums-refused}
 
 -- a part is accepted exactly so
 pub part-accepted : (kind : ReplyType) (part : List ℕ) (p : ℕ) → (passwordBy kind part ≡ Reading.Password p) ↔ OfPassword p kind part
@@ -55,7 +56,7 @@ module _ (kind : ReplyType) (part : List ℕ) where
     pub word-part-unread : (passwordBy kind part ≡ Reading.Refused Refusal.ReplyUnread) ↔ (sixWords (tokens part) ≡ false)
     word-part-unread = (
       λ r. cases (sixWords (tokens part)) (λ s. let why = words-why (map placeOf (map upperText (tokens part))) Refusal.ReplyUnread
-          (sym (as-six ∙ six-read part s) ∙ r) (λ k q. never (cc)) in never (cc)) (λ s. s),
+          (sym (as-six ∙ six-read part s) ∙ r) in absurd (omega (arith, why .1))) (λ s. s),
       λ s. as-six ∙ six-unread part s,
     )
 
@@ -66,3 +67,23 @@ module _ (kind : ReplyType) (part : List ℕ) where
 
       pub word-part-sum : (passwordBy kind part ≡ Reading.Refused Refusal.PairSumWrong) ↔ SumRefused (map upperText (tokens part))
       word-part-sum = rw (as-six ∙ six-read part six) (sums-refused (tokens part) six)
+
+-- 31 to 33, and no other
+pub part-why : (kind : ReplyType) (part : List ℕ) (why : Refusal) → passwordBy kind part ≡ Reading.Refused why → Between 31 33 why
+part-why kind part why e = cases (isHex kind) hex words
+  where
+    unread : Refusal.ReplyUnread ≡ why → Between 31 33 why
+    unread same = subst (Between 31 33) same (omega arith, omega arith)
+
+    hex : isHex kind ≡ true → Between 31 33 why
+    hex h = unread (sym (hex-part-refused kind part h why .0 e .1))
+
+    words : isHex kind ≡ false → Between 31 33 why
+    words h =
+        cases (sixWords (tokens part))
+        (λ s.
+        let n = words-why (map placeOf (map upperText (tokens part))) why (sym (as-six kind part h ∙ six-read part s) ∙ e) in
+        (omega (arith, n .0), omega (arith, n .1)))
+        (λ s.
+        let told : Reading.Refused Refusal.ReplyUnread ≡ Reading.Refused why = sym (word-part-unread kind part h .1 s) ∙ e in
+        unread (cc))

@@ -22,7 +22,7 @@ use Rattle.hex.specs.Hex.{sixteenDigits, hexReading}
 use Rattle.reply.specs.Reply.{isWord, sixWords, upperText, summed, markOf, marksOf, foundReading, wordsReading, readingOf}
 use Rattle.reply.specs.Marked.{Marked}
 use Rattle.reply.specs.Laws.{spelt-token, six-parts, marks-within, marks-at, marks-only}
-use Rattle.readback.specs.LaidOut.{SumRefused}
+use Rattle.readback.specs.LaidOut.{Between, SumRefused}
 use Rattle.readback.specs.PlacesRead.{number-accepted}
 use Rattle.readback.specs.WordsRead.{places-found, found-tokens, Looked, all, some, looked, found-all, found-marked}
 use Rattle.readback.specs.ReplyRead.{reads-words, reads-hex, tokens-accepted}
@@ -32,19 +32,20 @@ pub never : {A : Type 0} → _≡_ {A = ℕ} 0 1 → A
 never e = absurd (omega arith)
 
 -- a refusal of words is 31 or 32
-pub words-why : (found : List Found) (why : Refusal) → foundReading found ≡ Reading.Refused why →
-    ((m : ℕ) → why ≡ Refusal.WordUnknown m → ⊥) → why ≡ Refusal.PairSumWrong
-words-why found why e f = go (looked found)
+pub words-why : (found : List Found) (why : Refusal) → foundReading found ≡ Reading.Refused why → Between 31 32 why
+words-why found why e = go (looked found)
   where
-    sum : (n : Number) → summed n ≡ Reading.Refused why → why ≡ Refusal.PairSumWrong
+    sum : (n : Number) → summed n ≡ Reading.Refused why → Refusal.PairSumWrong ≡ why
     sum (Number.Is p) q = never (cc)
     sum Number.SumWrong q = cc
 
-    go : Looked found → why ≡ Refusal.PairSumWrong
-    go (all ps a) = sum (placesNumber ps) (sym (found-all ps) ∙ ap foundReading (sym a) ∙ e)
+    go : Looked found → Between 31 32 why
+    go (all ps a) =
+        subst (Between 31 32) (sum (placesNumber ps) (sym (found-all ps) ∙ ap foundReading (sym a) ∙ e)) (omega arith, omega arith)
     go (some h) =
         let told : Reading.Refused (Refusal.WordUnknown (marksOf found)) ≡ Reading.Refused why = sym (found-marked found h) ∙ e in
-        absurd (f (marksOf found) (cc))
+        let same : Refusal.WordUnknown (marksOf found) ≡ why = cc in
+        subst (Between 31 32) same (omega arith, omega arith)
 
 -- a refusal of hex is 33
 pub hex-why : (u : List ℕ) (why : Refusal) → hexReading u ≡ Reading.Refused why → (sixteenDigits u ≡ false) × (why ≡ Refusal.ReplyUnread)
@@ -67,9 +68,7 @@ long-refused text = (
     short : length text ≤ 128 → readingOf text ≡ Reading.Refused Refusal.ReplyLong → ⊥
     short h e =
         cases (sixWords (tokens text))
-        (λ s.
-        let why = words-why (map placeOf (map upperText (tokens text))) Refusal.ReplyLong (sym (reads-words text h s) ∙ e) (λ k q. never (cc)) in
-        never (cc))
+        (λ s. absurd (omega (arith, words-why (map placeOf (map upperText (tokens text))) Refusal.ReplyLong (sym (reads-words text h s) ∙ e) .0)))
         (λ s. let why = hex-why (unspaced text) Refusal.ReplyLong (sym (reads-hex text h s) ∙ e) .1 in never (cc))
 
 -- ---- 33: "neither six words nor sixteen digits"
@@ -86,10 +85,26 @@ unread-refused text h = (
     neither : readingOf text ≡ Reading.Refused Refusal.ReplyUnread → (sixWords (tokens text) ≡ false) × (sixteenDigits (unspaced text) ≡ false)
     neither e =
         cases (sixWords (tokens text))
-        (λ s.
-        let why = words-why (map placeOf (map upperText (tokens text))) Refusal.ReplyUnread (sym (reads-words text h s) ∙ e) (λ k q. never (cc)) in
-        never (cc))
+        (λ s. absurd (omega (arith, words-why (map placeOf (map upperText (tokens text))) Refusal.ReplyUnread (sym (reads-words text h s) ∙ e) .1)))
         (λ s. (s, hex-why (unspaced text) Refusal.ReplyUnread (sym (reads-hex text h s) ∙ e) .0))
+
+-- ---- 30 to 33, and no other
+pub reading-why : (text : List ℕ) (why : Refusal) → readingOf text ≡ Reading.Refused why → Between 30 33 why
+reading-why text why e = cases (leb (length text) 128) (λ t. short (leb-true (length text) 128 t)) (λ t. long (leb-false (length text) 128 t))
+  where
+    short : length text ≤ 128 → Between 30 33 why
+    short h =
+        cases (sixWords (tokens text))
+        (λ s.
+        let n = words-why (map placeOf (map upperText (tokens text))) why (sym (reads-words text h s) ∙ e) in
+        (omega (arith, n .0), omega (arith, n .1)))
+        (λ s. subst (Between 30 33) (sym (hex-why (unspaced text) why (sym (reads-hex text h s) ∙ e) .1)) (omega arith, omega arith))
+
+    long : 128 < length text → Between 30 33 why
+    long h =
+        let told : Reading.Refused Refusal.ReplyLong ≡ Reading.Refused why = sym (long-refused text .1 h) ∙ e in
+        let same : Refusal.ReplyLong ≡ why = cc in
+        subst (Between 30 33) same (omega arith, omega arith)
 
 -- ---- 31, by the marks of 02, R-2
 -- only six tokens of letters, in at most 128 bytes, are refused so

@@ -13,7 +13,6 @@ use Rattle.text.specs.Quoted.{codes}
 use Rattle.text.specs.Tests.{same}
 use Rattle.extended.specs.declared.reply_types.ReplyType.{ReplyType}
 use Rattle.extended.specs.declared.reply_types.Typed.{Typed}
-use Rattle.extended.specs.declared.reply_texts.ReplyText.{ReplyText}
 use Rattle.extended.specs.ReplyTypes.{typeName, typeBy, typed, typeChecked, typeIn}
 use Rattle.extended.specs.Parameters.{parametersOf}
 use Rattle.extended.specs.ReplyTexts.{
@@ -24,12 +23,13 @@ use Rattle.extended.specs.ReplyTexts.{
   colons,
   colonsOf,
   passwordBy,
-  seedStart,
+  Said,
+  renewalSaid,
   renewalIn,
   typedIn,
   layoutChecked,
   extendedOf,
-  replyTextOf,
+  saidIn,
   seedPart,
 }
 use Rattle.readback.specs.LaidOut.{TwoParts, FourParts}
@@ -91,9 +91,9 @@ module _ (kind : ReplyType) (text rest : List ℕ) (laid : text ≡ typeName kin
 
   module _ (few : length text ≤ 256) where
     -- with as many parts as its type has it says what its parts say
-    pub typed-read : colons text ≡ colonsOf kind → replyTextOf text ≡ typedIn kind text
-    unfolding replyTextOf extendedOf layoutChecked
-    typed-read n =
+    pub typed-said : colons text ≡ colonsOf kind → saidIn text ≡ typedIn kind text
+    unfolding saidIn extendedOf layoutChecked
+    typed-said n =
         rw (
           ne-eqb (colons text) 0 (λ z. omega (arith, colons-there)),
           le-leb (length text) 256 few,
@@ -102,8 +102,8 @@ module _ (kind : ReplyType) (text rest : List ℕ) (laid : text ≡ typeName kin
         )
 
     -- and otherwise it is 35
-    pub parts-refused : (colons text ≡ colonsOf kind → ⊥) → replyTextOf text ≡ ReplyText.Refused Refusal.PartsWrong
-    unfolding replyTextOf extendedOf layoutChecked
+    pub parts-refused : (colons text ≡ colonsOf kind → ⊥) → saidIn text ≡ Said.Refused Refusal.PartsWrong
+    unfolding saidIn extendedOf layoutChecked
     parts-refused other =
         rw (
           ne-eqb (colons text) 0 (λ z. omega (arith, colons-there)),
@@ -114,24 +114,21 @@ module _ (kind : ReplyType) (text rest : List ℕ) (laid : text ≡ typeName kin
 
 -- ---- two parts
 
-pub two-read : (kind : ReplyType) (text present : List ℕ) → TwoParts kind text present → length text ≤ 256
-    → replyTextOf text ≡ ReplyText.Login (passwordBy kind present)
+pub two-said : (kind : ReplyType) (text present : List ℕ) → TwoParts kind text present → length text ≤ 256
+    → saidIn text ≡ Said.Login (passwordBy kind present)
 unfolding typedIn
-two-read kind text present t few =
-    typed-read kind text present (t .laid) few
+two-said kind text present t few =
+    typed-said kind text present (t .laid) few
     (colons-there kind text present (t .laid) ∙ ap suc (t .whole) ∙ sym (ap (λ (k : Bool). cond k 3 1) (t .logs-in)))
-    ∙ ap (λ (k : Bool). cond k (renewalIn kind text) (ReplyText.Login (passwordBy kind (partAt text (presentAt text))))) (t .logs-in)
-    ∙ ap (λ (l : List ℕ). ReplyText.Login (passwordBy kind l))
+    ∙ ap (λ (k : Bool). cond k (renewalIn kind text) (Said.Login (passwordBy kind (partAt text (presentAt text))))) (t .logs-in)
+    ∙ ap (λ (l : List ℕ). Said.Login (passwordBy kind l))
     (last-there text (presentAt text) present (present-there kind text present (t .laid)) (t .whole))
 
 -- ---- four parts
 
 -- what they say, where the parameters start at a place
-abbrev pub renewalBy : ReplyType → ℕ → List ℕ → List ℕ → List ℕ → ReplyText
-renewalBy kind at present parameters new =
-    let values = parametersOf parameters in
-    ReplyText.Renewal (values .algorithm) (values .count) (seedStart at values) (values .len)
-    (passwordBy kind new) (passwordBy kind present)
+abbrev pub renewalBy : ReplyType → ℕ → List ℕ → List ℕ → List ℕ → Said
+renewalBy kind at present parameters new = renewalSaid at (parametersOf parameters) (passwordBy kind new) (passwordBy kind present)
 
 module _ (kind : ReplyType) (text present parameters new : List ℕ) (t : FourParts kind text present parameters new) where
   -- where the parameters start
@@ -165,11 +162,11 @@ module _ (kind : ReplyType) (text present parameters new : List ℕ) (t : FourPa
       ∙ ap suc (colons-part present _ (t .present-whole) ∙ ap suc (colons-part parameters new (t .parameters-whole) ∙ ap suc (t .new-whole)))
       ∙ sym (ap (λ (k : Bool). cond k 3 1) (t .renews))
 
-  pub four-read : length text ≤ 256 → replyTextOf text ≡ renewalBy kind parametersPlace present parameters new
+  pub four-said : length text ≤ 256 → saidIn text ≡ renewalBy kind parametersPlace present parameters new
   unfolding typedIn renewalIn
-  four-read few =
-      typed-read kind text _ (t .laid) few three-colons
-      ∙ ap (λ (k : Bool). cond k (renewalIn kind text) (ReplyText.Login (passwordBy kind (partAt text (presentAt text))))) (t .renews)
+  four-said few =
+      typed-said kind text _ (t .laid) few three-colons
+      ∙ ap (λ (k : Bool). cond k (renewalIn kind text) (Said.Login (passwordBy kind (partAt text (presentAt text))))) (t .renews)
       ∙ (λ i. renewalBy kind (parameters-at i) (present-read i) (parameters-read i) (new-read i))
 
   -- a part of the parameters is a part of the text

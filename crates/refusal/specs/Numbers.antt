@@ -42,8 +42,8 @@ listingOf Refusal.SeedSame = record { 0 = 63; 1 = 0 }
 listingOf Refusal.LinesOutside = record { 0 = 70; 1 = 0 }
 
 -- 01, 'Forms for parts of the code': "Each enum answer has a definition that gives this paper's number and values for each of its cases."
--- The number and marks, 0 where nothing is refused; then the value, 0 after a refusal. A challenge's is in `challenge`, that of Reply and
--- Renew in `table`.
+-- The number and marks, 0 where nothing is refused; then the value, 0 after a refusal. A challenge's is in `challenge`, that of
+-- a reply's text in `extended`, that of an offer in `table`.
 abbrev pub unrefused : Listing
 unrefused = record { 0 = 0; 1 = 0 }
 

@@ -53,14 +53,14 @@ fn call_in(line: &[u8]) -> usize {
 
 // Answers a call, and hands back the table after it. The older seeds of its accounts are lent.
 fn answer_call(line: &mut [u8], call: usize, table: Table, older: &mut [u8; 3808]) -> Table
-    requires { ⌜ call < 22 ⌝ }
+    requires { ⌜ call < 25 ⌝ }
 {
     let given = script_words::read(line, call);
     if !given.good {
         printing::bad();
         return table;
     }
-    if call < 12 {
+    if call < 13 {
         text_calls::answer(call, line, given);
         return table;
     }
@@ -73,7 +73,7 @@ fn answer(line: &mut [u8], table: Table, older: &mut [u8; 3808]) -> Table {
         return table;
     }
     let call = call_in(line);
-    if 21 < call {
+    if 24 < call {
         printing::bad();
         return table;
     }

@@ -2,6 +2,8 @@
 ghost use Prim.Native.Nat.{_≤_};
 ghost use lib.ListN.{length};
 use crate::lending::is_untouched;
+use extended::reply_texts::ReplyText;
+use extended::reply_texts::seed_part;
 use libc::STDOUT_FILENO;
 use refusal::Checked;
 use refusal::Reading;
@@ -112,7 +114,7 @@ pub fn checked(result: Checked) {
     }
 }
 
-// The new count, after a reply or a renewal.
+// The new count, after an offer.
 pub fn replied(result: Replied) {
     match result {
         Replied::Accepted(count) => {
@@ -133,6 +135,50 @@ pub fn reading(result: Reading) {
             byte(b'\n');
         }
         Reading::Refused(why) => refused(why),
+    }
+}
+
+// A password that was read from a text.
+fn password_read(p: u64) {
+    say(b"ok pw ");
+    password(p);
+    byte(b'\n');
+}
+
+pub fn plain(result: Reading) {
+    match result {
+        Reading::Password(p) => password_read(p),
+        Reading::Refused(why) => refused(why),
+    }
+}
+
+// A renewal that was read: its values, with the seed's bytes, and its passwords.
+fn renewal_read(algorithm: u32, count: u16, seed: &[u8], new: u64, present: u64) {
+    say(b"ok init");
+    after_space(algorithm as u64);
+    after_space(count as u64);
+    byte(b' ');
+    bytes(seed);
+    byte(b' ');
+    password(new);
+    byte(b' ');
+    password(present);
+    byte(b'\n');
+}
+
+// What a text was read to.
+pub fn reply_read(result: ReplyText, text: &[u8]) {
+    match result {
+        ReplyText::Login(p) => password_read(p),
+        ReplyText::Renewal {
+            algorithm,
+            count,
+            start,
+            len,
+            new,
+            present,
+        } => renewal_read(algorithm, count, seed_part(text, start, len), new, present),
+        ReplyText::Refused(why) => refused(why),
     }
 }
 

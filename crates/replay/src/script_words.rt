@@ -112,7 +112,7 @@ fn none() -> Given
 
 // How many words a call takes.
 fn count(call: usize) -> usize
-    requires { ⌜ call < 22 ⌝ }
+    requires { ⌜ call < 25 ⌝ }
     ensures { λ r. ⌜ r ≤ 7 ⌝ }
 {
     let mut n = 0;
@@ -128,7 +128,7 @@ fn count(call: usize) -> usize
 
 // What the words after the name say. The bytes of texts take the place of their digits.
 pub fn read(line: &mut [u8], call: usize) -> Given
-    requires { ⌜ call < 22 ⌝ }
+    requires { ⌜ call < 25 ⌝ }
     ensures { λ r. ⌜ Within r (length (now (line .entry))) ⌝ }
 {
     let mut starts = [0usize; 7];

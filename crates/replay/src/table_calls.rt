@@ -6,14 +6,19 @@ use crate::lending::filled;
 use crate::lending::first;
 use crate::printing::checked;
 use crate::printing::ok;
+use crate::printing::plain;
 use crate::printing::replied;
+use crate::printing::reply_read;
 use crate::printing::written;
 use crate::script_words::Given;
 use crate::script_words::number;
 use crate::script_words::port;
 use crate::script_words::short;
 use crate::script_words::text;
+use extended::reply_texts::ReplyText;
+use extended::reply_texts::seed_part;
 use password::eight_bytes::bytes_of;
+use refusal::Reading;
 use table::Answered;
 use table::Settled;
 use table::Table;
@@ -71,30 +76,78 @@ fn challenge(given: Given, table: Table) -> Table {
     table
 }
 
-fn reply(line: &[u8], given: Given, table: Table, older: &mut [u8; 3808]) -> Table
-    requires { ⌜ Within given (length (now line)) ⌝ }
-{
-    let reply = text(line, given, 1);
-    answered(login::reply(table, older, port(given), reply))
+fn offer(given: Given, table: Table, password: u64) -> Table {
+    answered(login::offer(table, port(given), password))
 }
 
-fn renew(line: &[u8], given: Given, table: Table, older: &mut [u8; 3808]) -> Table
+// A renewal whose values and new password are words of the line.
+fn offer_renewal(
+    line: &[u8],
+    given: Given,
+    table: Table,
+    older: &mut [u8; 3808],
+    password: u64,
+) -> Table
     requires { ⌜ Within given (length (now line)) ⌝ }
 {
-    let bytes = bytes_of(number(given, 4));
-    let seed = text(line, given, 3);
-    let reply = text(line, given, 5);
     let algorithm = short(given, 1) as u32;
-    answered(login::renew(
+    let seed = text(line, given, 3);
+    answered(login::offer_renewal(
         table,
         older,
         port(given),
         algorithm,
         short(given, 2),
         seed,
-        &bytes,
-        reply,
+        number(given, 4),
+        password,
     ))
+}
+
+// What a text that is no login was read to: a renewal is offered, and a refusal is the answer.
+fn offer_read(
+    read: ReplyText,
+    typed: &[u8],
+    table: Table,
+    older: &mut [u8; 3808],
+    port: u8,
+) -> Table {
+    let ReplyText::Renewal {
+        algorithm,
+        count,
+        start,
+        len,
+        new,
+        present,
+    } = read
+    else {
+        reply_read(read, typed);
+        return table;
+    };
+    let seed = seed_part(typed, start, len);
+    answered(login::offer_renewal(table, older, port, algorithm, count, seed, new, present))
+}
+
+fn reply(line: &[u8], given: Given, table: Table, older: &mut [u8; 3808]) -> Table
+    requires { ⌜ Within given (length (now line)) ⌝ }
+{
+    let typed = text(line, given, 1);
+    let read = extended::reply_texts::read(typed);
+    let ReplyText::Login(password) = read else {
+        return offer_read(read, typed, table, older, port(given));
+    };
+    offer(given, table, password)
+}
+
+fn renew(line: &[u8], given: Given, table: Table, older: &mut [u8; 3808]) -> Table
+    requires { ⌜ Within given (length (now line)) ⌝ }
+{
+    let read = reply::read(text(line, given, 5));
+    let Reading::Password(password) = read else {
+        plain(read);
+        return table;
+    };
+    offer_renewal(line, given, table, older, password)
 }
 
 fn ticks(table: Table, n: u64) -> Table {
@@ -113,15 +166,17 @@ pub fn answer(call: usize, line: &[u8], given: Given, table: Table, older: &mut 
     requires { ⌜ Within given (length (now line)) ⌝ }
 {
     match call {
-        12 => new(),
-        13 => enrol(line, given, table),
-        14 => remove(given, table),
-        15 => join(given, table),
-        16 => leave(given, table),
-        17 => challenge(given, table),
-        18 => reply(line, given, table, older),
-        19 => renew(line, given, table, older),
-        20 => ticks(table, number(given, 0)),
+        13 => new(),
+        14 => enrol(line, given, table),
+        15 => remove(given, table),
+        16 => join(given, table),
+        17 => leave(given, table),
+        18 => challenge(given, table),
+        19 => reply(line, given, table, older),
+        20 => renew(line, given, table, older),
+        21 => offer(given, table, number(given, 1)),
+        22 => offer_renewal(line, given, table, older, number(given, 5)),
+        23 => ticks(table, number(given, 0)),
         _ => dump(table, older),
     }
 }

@@ -7,8 +7,10 @@ use crate::printing::after_space;
 use crate::printing::byte;
 use crate::printing::bytes;
 use crate::printing::good;
+use crate::printing::plain;
 use crate::printing::reading;
 use crate::printing::refused;
+use crate::printing::reply_read;
 use crate::printing::written;
 use crate::script_words::Given;
 use crate::script_words::number;
@@ -50,6 +52,10 @@ fn generate(line: &[u8], given: Given)
     let phrase = text(line, given, 1);
     let seed = text(line, given, 2);
     reading(generator::generate(algorithm, phrase, seed, short(given, 3) as u32));
+}
+
+fn read(text: &[u8]) {
+    reply_read(extended::reply_texts::read(text), text);
 }
 
 fn chal(text: &[u8]) {
@@ -144,12 +150,13 @@ pub fn answer(call: usize, line: &[u8], given: Given)
         0 => md5(text(line, given, 0)),
         1 => sha1(text(line, given, 0)),
         2 => generate(line, given),
-        5 => reading(reply::read(text(line, given, 0))),
+        5 => read(text(line, given, 0)),
         6 => chal(text(line, given, 0)),
         7 | 8 => writer(call, line, given, number(given, 3)),
         9 => prog(text(line, given, 0)),
         10 => writer(call, line, given, number(given, 2)),
         11 => writer(call, line, given, number(given, 6)),
+        12 => plain(reply::read(text(line, given, 0))),
         _ => writer(call, line, given, number(given, 1)),
     }
 }

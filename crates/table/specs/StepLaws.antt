@@ -112,7 +112,7 @@ module _ (port : ℕ) (s : State) where
   unfolding steps.leave
   leave-done e = rw e
 
--- ---- Challenge, Reply and Renew
+-- ---- Challenge and Offer, also of a renewal
 
 pub record TurnPassed (port : ℕ) (s : State) : Type 0 where
   pub known : leb port 3 ≡ true

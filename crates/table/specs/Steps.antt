@@ -1,4 +1,4 @@
--- The written steps, one for each call: document 01, 'Table, ports and turns', in its order and words; document 02, R-1, R-4, R-5 and R-6.
+-- The written steps, one for each call: document 01, 'Table, ports and turns', in its order and words; document 02, R-1, R-4, R-5, R-6 and R-7.
 use Prim.Native.Nat.{ℕ, _-_}
 use mathlib.Core.Bool.{true, cond}
 use mathlib.Core.List.{List, [], _∷_, map}
@@ -7,17 +7,13 @@ use lib.ListN.{length}
 use Rattle.refusal.specs.declared.Refusal.{Refusal}
 use Rattle.refusal.specs.declared.Listing.{Listing}
 use Rattle.refusal.specs.declared.Checked.{Checked}
-use Rattle.refusal.specs.declared.Reading.{Reading}
 use Rattle.refusal.specs.declared.Written.{Written}
 use Rattle.refusal.specs.Numbers.{listingOf, unrefused}
 use Rattle.refusal.specs.Checks.{unless, inOrder}
 use Rattle.password.specs.PhraseAndSeed.{seedChecked}
 use Rattle.password.specs.Algorithm.{numbered, algorithmChecked}
-use Rattle.password.specs.Password.{hash, bytesOf, numberOf}
+use Rattle.password.specs.Password.{hash, bytesOf}
 use Rattle.challenge.specs.Challenges.{challengeText, challengeWrittenBy}
-use Rattle.reply.specs.Reply.{readingOf}
-use Rattle.extended.specs.declared.reply_texts.ReplyText.{ReplyText}
-use Rattle.extended.specs.ReplyTexts.{replyTextOf, seedPart}
 use Rattle.line.specs.Line.{joined, left, ticked}
 use Rattle.port.specs.Port.{wrongly, wrongAnswer, rightly, cooled}
 use Rattle.table.specs.declared.Replied.{Replied}
@@ -68,7 +64,7 @@ settled r older = record { answer = r .answer; state = view (r .table) older }
 abbrev pub answered : Answered → List ℕ → After Replied
 answered r older = record { answer = r .answer; state = view (r .table) older }
 
--- The number and value of what Reply and Renew answer: the new count.
+-- The number and value of what an offer is answered: the new count.
 abbrev pub repliedNumbers : Replied → Listing × ℕ
 repliedNumbers (Replied.Accepted count) = (unrefused, count)
 repliedNumbers (Replied.Refused why) = (listingOf why, 0)
@@ -122,7 +118,7 @@ leaveChecked port s = inOrder (portKnown port ∷ inLine port s ∷ [])
 unfoldable pub leave : ℕ → State → After Checked
 leave port s = unless (refused s) (leaveChecked port s) (done (leaves port s))
 
--- What Challenge, Reply and Renew check first: 55, 59, 60, 58, of the account in whose line the port stands. No call leaves a port in
+-- What Challenge and Offer, also of a renewal, check first: 55, 59, 60, 58, of the account in whose line the port stands. No call leaves a port in
 -- line whose account isn't there; in such a table it is 54 before 58.
 unfoldable pub turnChecked : ℕ → State → Checked
 turnChecked port s =
@@ -153,49 +149,26 @@ rejected port s = record {
   state = leaves port (withPort port (wrongly (portOf port s)) s);
 }
 
-unfoldable pub offered : ℕ → ℕ → Room → State → After Replied
-offered port password next s =
+unfoldable pub compared : ℕ → ℕ → Room → State → After Replied
+compared port password next s =
     cond (eqb (hash (ownAccount port s .algorithm) (bytesOf password)) (ownAccount port s .password))
     (accepted port next s) (rejected port s)
 
--- "then 30 to 33": what is done with the password that a text says; a refusal to read it is the answer.
-abbrev pub read : State → Reading → (ℕ → After Replied) → After Replied
-read s (Reading.Password password) next = next password
-read s (Reading.Refused why) next = replyRefused s why
+-- R-7, "offering a password to the table": "Offer checks 55, 59, 60, 58 .. and compares." On a match "store the reply, lower the count by 1".
+unfoldable pub offer : ℕ → ℕ → State → After Replied
+offer port password s = unless (replyRefused s) (turnChecked port s) (compared port password (lowered (ownAccount port s) password) s)
 
--- Reply, by what the present password is read as. On a match "store the reply, lower the count by 1".
-unfoldable pub loginRead : ℕ → Reading → State → After Replied
-loginRead port present s = read s present (λ password. offered port password (lowered (ownAccount port s) password) s)
-
--- Renew: 55, 59, 60, 58, 51, 21, 23, 24, 63, then 30 to 33, "then as Reply, but on a match the account takes the new count,
--- seed and password"; R-1: "renewal may change" the algorithm; R-5: the seeds before the new one are remembered, eight in all.
+-- "for renewal the new values as before": 51, 21, 23, 24, 63, behind the turn's checks.
 unfoldable pub renewChecked : ℕ → ℕ → ℕ → List ℕ → State → Checked
 renewChecked port number count seed s =
     inOrder (turnChecked port s ∷ countWithin count ∷ algorithmChecked (numbered number) ∷ seedChecked seed ∷ seedOther seed (ownAccount port s) ∷ [])
 
--- By what the new password is read as, and the present one after it.
-unfoldable pub renewRead : ℕ → ℕ → ℕ → List ℕ → Reading → Reading → State → After Replied
-renewRead port number count seed new present s =
-    read s new (λ next. read s present (λ password. offered port password (renewedRoom (ownAccount port s) number count seed next) s))
-
-unfoldable pub renewal : ℕ → ℕ → ℕ → List ℕ → Reading → Reading → State → After Replied
-renewal port number count seed new present s =
-    unless (replyRefused s) (renewChecked port number count seed s) (renewRead port number count seed new present s)
-
--- The new password is given as "eight bytes". R-6: "Renew's text stays plain".
-unfoldable pub renew : ℕ → ℕ → ℕ → List ℕ → List ℕ → List ℕ → State → After Replied
-renew port number count seed new text s = renewal port number count seed (Reading.Password (numberOf new)) (readingOf text) s
-
--- Reply: 55, 59, 60, 58, then 30 to 33. R-6: 30, 34, 35, and for the `init` types, which "do what Renew does", "51 (or no number), 21, 23, 24, 63 for
--- the parameters, then 31 to 33 for the new password and after it for the present one". What the text says is `extended`'s, and looks at no table;
--- the turn's checks, which Renew has too, have found nothing wrong by then.
-unfoldable pub replyBy : ℕ → List ℕ → ReplyText → State → After Replied
-replyBy port text (ReplyText.Login present) s = loginRead port present s
-replyBy port text (ReplyText.Renewal number count start len new present) s = renewal port number count (seedPart text start len) new present s
-replyBy port text (ReplyText.Refused why) s = replyRefused s why
-
-unfoldable pub reply : ℕ → List ℕ → State → After Replied
-reply port text s = unless (replyRefused s) (turnChecked port s) (replyBy port text (replyTextOf text) s)
+-- "then as Reply, but on a match the account takes the new count, seed and password"; R-1: "renewal may change" the algorithm; R-5: the seeds before the
+-- new one are remembered, eight in all.
+unfoldable pub offerRenewal : ℕ → ℕ → ℕ → List ℕ → ℕ → ℕ → State → After Replied
+offerRenewal port number count seed new password s =
+    unless (replyRefused s) (renewChecked port number count seed s)
+    (compared port password (renewedRoom (ownAccount port s) number count seed new) s)
 
 -- Tick: "each shut count above 0 falls by 1; then", R-4, "the turn of every line that isn't empty", and "at 0 the front port leaves".
 unfoldable pub tick : State → State

@@ -29,7 +29,7 @@ unfoldable pub heldFrom : ℕ → List Account → (ℕ → List ℕ) → (ℕ �
 heldFrom k [] parts lines = []
 heldFrom k (account ∷ accounts) parts lines = record { account = roomOf account (parts k); line = lines k } ∷ heldFrom (suc k) accounts parts lines
 
--- The bytes of the older seeds stand apart from the table, and are lent to Reply and Renew alone.
+-- The bytes of the older seeds stand apart from the table, and are lent to the offer of a renewal alone.
 abbrev pub view : Table → List ℕ → State
 view t older = record { rooms = heldFrom 0 (t .rooms) (partOf older) (waiting (t .lines)); ports = t .ports }
 

@@ -1,6 +1,6 @@
 // The login table of one controller: accounts, ports and the lines of those that wait; and what its calls answer. Of an account's remembered seeds
 // the table has the present one. The older ones, which one call in many looks at, are 3,808 bytes that the controller keeps beside the table and lends
-// to Reply and Renew: seven places of 17 bytes for each room (`accounts::older`). What they hold at the start doesn't matter.
+// to the offer of a renewal: seven places of 17 bytes for each room (`accounts::older`). What they hold at the start doesn't matter.
 ghost use Prim.Native.Nat.{ℕ};
 ghost use mathlib.Core.Path.{_≡_};
 ghost use mathlib.Core.List.{List};

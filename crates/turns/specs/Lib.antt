@@ -3,5 +3,3 @@ pub mod TurnChecks
 pub mod TurnCheckLaws
 pub mod TurnPartLaws
 pub mod TurnPart
-pub mod RepliedLaws
-pub mod Replied

@@ -5,10 +5,12 @@ use mathlib.Core.List.{List}
 use lib.Dec.{eqb}
 use Rattle.refusal.specs.declared.Refusal.{Refusal}
 use Rattle.refusal.specs.declared.Checked.{Checked}
+use Rattle.refusal.specs.Checks.{unless}
 use Rattle.password.specs.Password.{hash, bytesOf}
 use Rattle.port.specs.declared.Port.{Port}
 use Rattle.port.specs.Port.{wrongly, wrongAnswer, rightly}
 use Rattle.accounts.specs.Rooms.{Room, partOf, roomOf}
+use Rattle.accounts.specs.Accounts.{renewedRoom, lowered, valuesChecked}
 use Rattle.table.specs.declared.Replied.{Replied}
 use Rattle.table.specs.Table.{State, portOf, standsAt, ownAccount, withAccount, withPort}
 use Rattle.table.specs.Steps.{After, turnChecked, leaves}
@@ -75,6 +77,17 @@ accepted next t = record { place = t .place; account = next; own = rightly (t .o
 abbrev pub rejected : Seen → Said
 rejected t = record { place = t .place; account = t .account; own = wrongly (t .own); leaves = true; answer = Replied.Refused (wrongAnswer (t .own)) }
 
-unfoldable pub offered : ℕ → Room → Seen → Said
-offered password next t =
+unfoldable pub compared : ℕ → Room → Seen → Said
+compared password next t =
     cond (eqb (hash (t .account .algorithm) (bytesOf password)) (t .account .password)) (accepted next t) (rejected t)
+
+-- Offer, and Offer of a renewal: the checks, and then the comparison.
+unfoldable pub loggedIn : ℕ → Seen → Said
+loggedIn password t = unless (refused t) (t .checked) (compared password (lowered (t .account) password) t)
+
+unfoldable pub renewValues : ℕ → ℕ → List ℕ → ℕ → ℕ → Seen → Said
+renewValues number count seed new password t =
+    unless (refused t) (valuesChecked number count seed (t .account)) (compared password (renewedRoom (t .account) number count seed new) t)
+
+unfoldable pub renewed : ℕ → ℕ → List ℕ → ℕ → ℕ → Seen → Said
+renewed number count seed new password t = unless (refused t) (t .checked) (renewValues number count seed new password t)

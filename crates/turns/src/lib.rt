@@ -1,4 +1,4 @@
-// The calls of the port that has the turn: Challenge, Reply and Renew.
+// The calls of the port that has the turn: Challenge, and Offer, of a password or of a renewal. A caller that has a text reads it first (`extended`).
 ghost use Prim.Native.Nat.{ℕ};
 ghost use mathlib.Core.Path.{_≡_};
 ghost use mathlib.Core.List.{List};
@@ -8,33 +8,28 @@ ghost use Rattle.table.specs.Table.{view, freshPort};
 ghost use Rattle.table.specs.Steps as steps;
 ghost use Rattle.table.specs.declared.Replied.{Replied};
 ghost use Rattle.refusal.specs.declared.Refusal.{Refusal};
-ghost use Rattle.refusal.specs.declared.Reading.{Reading};
-ghost use Rattle.extended.specs.declared.reply_texts.ReplyText.{ReplyText};
-ghost use Rattle.extended.specs.ReplyTexts.{replyTextOf};
 ghost use Rattle.turns.specs.TurnPart.{seen, seenBy, outcome, after};
 use crate::offering::Outcome;
 use crate::offering::TurnPart;
-use crate::replying::renewed;
-use crate::replying::replied;
+use crate::offering::logged_in;
+use crate::renewals::renewed;
 use crate::turn_checks::check_turn;
 use accounts::lowered::write_challenge;
 use line::room_of;
-use password::eight_bytes::number_of;
 use port::Port;
 use refusal::Checked;
-use refusal::Reading;
 use refusal::Written;
 use table::Answered;
 use table::Table;
 use table::held::account_at;
 use table::held::put;
 
-// What Challenge, Reply and Renew check first: the port is in front, and its account isn't used up.
+// What all three check first: the port is in front, and its account isn't used up.
 mod turn_checks;
 // What is done with a password that is offered in a turn.
 mod offering;
-// Reply and Renew on what a port's turn has of the table.
-mod replying;
+// What is done with a renewal that is.
+mod renewals;
 
 // A port's own record; a fresh one where there is none.
 fn own_of(ports: [Port; 4], port: u8) -> Port
@@ -112,31 +107,29 @@ pub fn challenge(table: Table, port: u8, buf: &mut [u8]) -> Written
     write_challenge(account, buf)
 }
 
-// The older seeds are lent: a reply may be a renewal, and an accepted one changes those of its account. A refusal and a login leave them alone.
-pub fn reply(table: Table, older: &mut [u8; 3808], port: u8, text: &[u8]) -> Answered
-    ensures answered { λ r. ⌜ steps.answered r (now (older .exit)) ≡ steps.reply port (now (text .entry)) (view table (now (older .entry))) ⌝ }
-    ensures left { λ r. ⌜ ((why : Refusal) → r .answer ≡ Replied.Refused why → now (older .exit) ≡ now (older .entry)) ⌝ }
-    ensures kept { λ _. ⌜ ((present : Reading) → replyTextOf (now (text .entry)) ≡ ReplyText.Login present → now (older .exit) ≡ now (older .entry)) ⌝ }
+// A password, however the port came by it. The older seeds stay.
+pub fn offer(table: Table, port: u8, password: u64) -> Answered
+    ensures { λ r. ⌜ ((older : List ℕ) → steps.answered r older ≡ steps.offer port password (view table older)) ⌝ }
 {
-    let made = replied(turn_of(table, port), older, text);
+    let made = logged_in(turn_of(table, port), password);
     put_back(table, port, made)
 }
 
-pub fn renew(
+// New values, a new password and the present one. The older seeds are lent: an accepted renewal changes those of its account.
+pub fn offer_renewal(
     table: Table,
     older: &mut [u8; 3808],
     port: u8,
     algorithm: u32,
     count: u16,
     seed: &[u8],
-    password: &[u8; 8],
-    text: &[u8],
+    new: u64,
+    password: u64,
 ) -> Answered
     ensures answered { λ r. ⌜ steps.answered r (now (older .exit))
-        ≡ steps.renew port algorithm count (now (seed .entry)) (now (password .entry)) (now (text .entry)) (view table (now (older .entry))) ⌝ }
+        ≡ steps.offerRenewal port algorithm count (now (seed .entry)) new password (view table (now (older .entry))) ⌝ }
     ensures left { λ r. ⌜ ((why : Refusal) → r .answer ≡ Replied.Refused why → now (older .exit) ≡ now (older .entry)) ⌝ }
 {
-    let new = Reading::Password(number_of(*password));
     let made = renewed(
         turn_of(table, port),
         older,
@@ -144,7 +137,7 @@ pub fn renew(
         count,
         seed,
         new,
-        reply::read(text),
+        password,
     );
     put_back(table, port, made)
 }

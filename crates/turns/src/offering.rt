@@ -6,6 +6,7 @@ ghost use Rattle.accounts.specs.Rooms.{partOf, roomOf};
 ghost use Rattle.turns.specs.TurnPart as spec;
 ghost use Rattle.turns.specs.TurnPart.{seen, outcome, olderAfter};
 use accounts::Account;
+use accounts::lowered::lower;
 use generator::chain::step;
 use port::Port;
 use port::after_right;
@@ -54,7 +55,7 @@ fn accepted(turn: TurnPart, next: Account) -> Outcome
         place: turn.place,
         account: next,
         own: after_right(turn.own),
-        leaves: true,
+        leaves: true, // a match uses the turn up
         answer: Replied::Accepted(next.count),
     }
 }
@@ -73,9 +74,9 @@ fn rejected(turn: TurnPart) -> Outcome
 }
 
 // Where the hash, by the account's present algorithm, is the stored password, the account becomes `next`, with the older seeds that it has then.
-pub fn offer(turn: TurnPart, password: u64, next: Account) -> Outcome
+pub fn compare(turn: TurnPart, password: u64, next: Account) -> Outcome
     ensures { λ r. ⌜ ((older new : List ℕ) → outcome r (olderAfter (r .answer) older new)
-        ≡ spec.offered password (roomOf next (partOf new (turn .place))) (seen turn older)) ⌝ }
+        ≡ spec.compared password (roomOf next (partOf new (turn .place))) (seen turn older)) ⌝ }
 {
     let account = turn.account;
     let algorithm = account.algorithm;
@@ -83,4 +84,16 @@ pub fn offer(turn: TurnPart, password: u64, next: Account) -> Outcome
         return accepted(turn, next);
     }
     rejected(turn)
+}
+
+// A login: behind the turn's checks the password is compared, and on a match the account steps down.
+pub fn logged_in(turn: TurnPart, password: u64) -> Outcome
+    ensures { λ r. ⌜ ((older : List ℕ) → outcome r older ≡ spec.loggedIn password (seen turn older)) ⌝ }
+{
+    let checked = turn.checked;
+    if let Checked::Refused(why) = checked {
+        return stays(turn, Replied::Refused(why));
+    }
+    let account = turn.account;
+    compare(turn, password, lower(account, password))
 }

@@ -1,4 +1,4 @@
-// What Challenge, Reply and Renew check first: the port is in front of its own line, and its account isn't used up.
+// What Challenge and Offer check first, also of a renewal: the port is in front of its own line, and its account isn't used up.
 ghost use Prim.Native.Nat.{ℕ};
 ghost use mathlib.Core.Path.{_≡_};
 ghost use mathlib.Core.List.{List};

@@ -18,7 +18,7 @@ pub fits : (number count : ℕ) (seed : List ℕ) → newChecked number count se
 unfolding newChecked
 fits number count seed e = good-seed seed (each-good (countWithin count ∷ algorithmChecked (numbered number) ∷ seedChecked seed ∷ []) e .1 .1 .0) .1
 
--- Renew's checks are Enrol's, and then 63.
+-- A renewal's checks are Enrol's, and then 63.
 pub then-other : (number count : ℕ) (seed : List ℕ) (present : Room)
     → valuesChecked number count seed present ≡ unless Checked.Refused (newChecked number count seed) (seedOther seed present)
 unfolding newChecked valuesChecked
@@ -31,7 +31,7 @@ then-other number count seed present = by (countWithin count) (algorithmChecked 
     by Checked.Good (Checked.Refused why) c d = refl
     by (Checked.Refused why) b c d = refl
 
--- So Renew's good values are good at Enrol.
+-- So A renewal's good values are good at Enrol.
 pub new-too : (number count : ℕ) (seed : List ℕ) (present : Room) → valuesChecked number count seed present ≡ Checked.Good
     → newChecked number count seed ≡ Checked.Good
 new-too number count seed present e = by (newChecked number count seed) (sym (then-other number count seed present) ∙ e)

@@ -6,10 +6,10 @@ use Rattle.meter.proofs.repeat.Statement.{statement}
 use Rattle.meter.proofs.repeat.Tie as tie
 
 abbrev Inv-loop : tie.InvT-loop
-Inv-loop call start older₀ id times ticks last₀ k₀ older last k = k ≤ times
+Inv-loop letter start older₀ id text password times call reads last₀ k₀ older last k = k ≤ times
 
 abbrev μ-loop : tie.MeasureT-loop
-μ-loop call start older₀ id times ticks last₀ k₀ older last k = times - k
+μ-loop letter start older₀ id text password times call reads last₀ k₀ older last k = times - k
 
 pub repeat-spec : {M : Type 1} → statement M
 repeat-spec =
@@ -18,7 +18,9 @@ repeat-spec =
     Inv-loop
     μ-loop
     (λ c κs. search needs)
+    (λ c κs. search needs)
     (λ c. omega arith)
+    (λ c κs. search needs)
     (λ c κs. search needs)
     (λ c. omega arith)
     (λ c. omega arith)

@@ -1,13 +1,12 @@
 -- `renewal_in` meets its promise: the parts one after the other, and what each says.
 use borrow.Author.Needs.{needs}
 use Prim.Native.Nat.{ℕ, _≤_}
-use mathlib.Core.Path.{_≡_, _∙_, ap, ap₂}
+use mathlib.Core.Path.{_≡_, _∙_, ap}
 use mathlib.Core.List.{List}
 use native.Mathlib.Omega.{arith}
 use Rattle.extended.specs.declared.parameters.Parameters.{Parameters}
-use Rattle.extended.specs.declared.reply_texts.ReplyText.{ReplyText}
 use Rattle.extended.specs.Parameters.{parametersOf}
-use Rattle.extended.specs.ReplyTexts.{partAt, partAfter, presentAt, parametersAt, newAt, seedStart, passwordBy, renewalIn}
+use Rattle.extended.specs.ReplyTexts.{partAt, partAfter, presentAt, parametersAt, newAt, passwordBy, renewalSaid, renewalIn, readTo}
 use Rattle.extended.specs.Laws.{part-short, present-near, parameters-near, parameters-within}
 use Rattle.extended.proofs.reply_texts.renewal_in.Statement.{statement}
 use Rattle.extended.proofs.reply_texts.renewal_in.Tie as tie
@@ -58,13 +57,11 @@ returns c =
     let first = second .before in
     let kind = first .before .before .args .kind in
     let t = text first in
-    let said = values valued in
-    let start = c .seed-start .ensures ∙ ap₂ seedStart (parameters-at second) said in
     let new-read : new .read-part .result ≡ passwordBy kind (partAt t (newAt t)) =
     new .read-part .ensures ∙ ap (passwordBy kind) (new .before .part2 .ensures ∙ ap (partAt t) (new-at third)) in
     let present-read : present .read-part2 .result ≡ passwordBy kind (partAt t (presentAt t)) =
     present .read-part2 .ensures ∙ ap (passwordBy kind) (present .before .part3 .ensures ∙ ap (partAt t) (present-at first)) in
-    λ i. ReplyText.Renewal (said i .algorithm) (said i .count) (start i) (said i .len) (new-read i) (present-read i)
+    c .renewal-of .ensures ∙ (λ i. readTo (renewalSaid (parameters-at second i) (values valued i) (new-read i) (present-read i)))
 
 pub renewal-in-spec : {M : Type 1} → statement M
 renewal-in-spec =

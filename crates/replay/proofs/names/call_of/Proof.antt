@@ -5,10 +5,10 @@ use Rattle.replay.proofs.names.call_of.Statement.{statement}
 use Rattle.replay.proofs.names.call_of.Tie as tie
 
 abbrev Inv-loop : tie.InvT-loop
-Inv-loop word call₀ call = call ≤ 22
+Inv-loop word call₀ call = call ≤ 25
 
 abbrev μ-loop : tie.MeasureT-loop
-μ-loop word call₀ call = 22 - call
+μ-loop word call₀ call = 25 - call
 
 pub call-of-spec : {M : Type 1} → statement M
 call-of-spec =
