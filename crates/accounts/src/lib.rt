@@ -1,4 +1,5 @@
 // An account and its room, its seeds, and what becomes of it: new values at Enrol and at a renewal, one count down with a login.
+#![tactic(auto)]
 use password::algorithm::Algorithm;
 use refusal::Checked;
 
@@ -15,7 +16,7 @@ pub mod lowered;
 
 // An account and its room: id 0 is a free room, whose algorithm says nothing. The seed is the first `len` bytes, in lower case; zeros after it.
 // Of the seven places that its room has for older seeds, which stand apart from it, the first `older_count` are in use.
-#[derive(Drop)]
+#[derive(Clone, Copy)]
 pub struct Account {
     pub id: u16,
     pub algorithm: Algorithm,
@@ -37,7 +38,7 @@ pub const FREE: Account = Account {
 };
 
 // What is found of an account's new values, and the account with them; a free room where they are refused.
-#[derive(Drop)]
+#[derive(Clone, Copy)]
 pub struct Proposed {
     pub checked: Checked,
     pub account: Account,

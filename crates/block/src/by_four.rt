@@ -3,7 +3,7 @@ ghost use Rattle.std.specs.Prelude.{◌≡◌, ◌≤◌};
 ghost use Rattle.block.specs.ByFour.{four_at};
 
 // One for each of four steps: their words, or what else each has of its own.
-#[derive(Drop)]
+#[derive(Clone, Copy)]
 pub struct Four(pub u32, pub u32, pub u32, pub u32);
 
 // The four of the words that start at the i-th.

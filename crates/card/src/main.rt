@@ -1,4 +1,5 @@
 // Reads a pass-phrase, a challenge and a number of lines from standard input, and prints the card or why there is none.
+#![tactic(auto)]
 use libc::{STDIN_FILENO, STDOUT_FILENO};
 
 fn main() {

@@ -8,7 +8,7 @@ use password::phrase_and_seed::check_phrase;
 use refusal::{Checked, Refusal};
 
 // The algorithm and the count of a card's first line. Or what is wrong.
-#[derive(Drop)]
+#[derive(Clone, Copy)]
 pub enum Asked {
     Card(Algorithm, u32),
     Refused(Refusal),

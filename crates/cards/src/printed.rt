@@ -1,6 +1,6 @@
 // What the program `card` prints for its input. Document 01, 'The card'.
 ghost use Rattle.std.specs.Prelude.{◌≡◌, ◌≤◌, length};
-ghost use Rattle.bytes.specs.Bytes.{index_of};
+ghost use Rattle.text.specs.Scan.{index_of};
 ghost use Rattle.text.specs.Put.{Put};
 ghost use Rattle.cards.specs.Printed.{first_line, kept_line, past_line, lines_asked, refused_text, printed_card, answer_of};
 

@@ -1,4 +1,5 @@
 // Challenges, read and written. Document 01, 'Challenges'; document 02, R-1 and R-6.
+#![tactic(auto)]
 
 // What a challenge says, and its seed as a part of it.
 pub mod reading;

@@ -23,7 +23,7 @@ const EXT_COMMA: [u8; 4] = [b'e', b'x', b't', b','];
 
 // What a challenge says: its algorithm, its count, where in its bytes the seed stands, how many bytes were used, and whether it has the mark `ext`: who
 // wrote it takes extended replies. Or what is wrong.
-#[derive(Drop)]
+#[derive(Clone, Copy)]
 pub enum Challenge {
     Read {
         algorithm: Algorithm,

@@ -65,7 +65,7 @@ use Rattle.grounds.specs.HandedOn.{call_never, reply_handed_on, renewal_handed_o
 
 -- Each refusal's number is in the list.
 pub refusal_listed : (why : Refusal) → is_in (listing_of why).0 listed ≡ true
-refusal_listed why = Rows.refusal-listed why
+refusal_listed why = Rows.refusal_listed why
 
 -- And each number of the list is the answer of some call.
 pub listed_given : Each Given listed
@@ -84,7 +84,7 @@ marks_of_31 text m = (
 
 -- They are 1 to 63, and one number.
 pub marks_1_to_63 : (text : List ℕ) (m : ℕ) → reading_of text ≡ Reading.Refused (Refusal.WordUnknown m) → (1 ≤ m) × (m ≤ 63)
-marks_1_to_63 text m e = let marked = ((marks_of_31 text m).0 e).2 in (marked.some-set, marked.of-six)
+marks_1_to_63 text m e = let marked = ((marks_of_31 text m).0 e).2 in (marked.some_set, marked.of_six)
 
 pub marks_are_one : (text : List ℕ) → length text ≤ 128 → six_words (tokens text) ≡ true → (m n : ℕ)
     → Marked (map upper_text (tokens text)) m → Marked (map upper_text (tokens text)) n → m ≡ n
@@ -123,61 +123,61 @@ offer_refuses_no_text why text port what c s own e = call_never why text port wh
 -- MD5 and SHA-1: 12, then 40
 pub digest_refusals : (algorithm : Algorithm) (m : List ℕ) (room : ℕ)
     → Exactly (written_number (digest_of (digest_by algorithm) m room)) ((12, ltb 4096 (length m)) ∷ room_rows room (digest_by algorithm m))
-digest_refusals algorithm m room = Refusing.digest-exactly (digest_by algorithm) m room
+digest_refusals algorithm m room = Refusing.digest_exactly (digest_by algorithm) m room
 
 -- "The generator checks 10, 11, 23, 24, 13 in that order", and R-1's 21 "first"
 pub generator_refusals : (number : ℕ) (phrase seed : List ℕ) (count : ℕ)
     → Exactly (read_number (generated number phrase seed count)) (algorithm_rows number ++ phrase_rows phrase ++ seed_rows seed ++ (13, ltb 9999 count) ∷ [])
-generator_refusals number phrase seed count = Refusing.generator-exactly number phrase seed count
+generator_refusals number phrase seed count = Refusing.generator_exactly number phrase seed count
 
 -- 30 to 33, of a plain reply
 pub reply_refusals : (text : List ℕ) → Exactly (read_number (reading_of text)) (reply_rows text)
-reply_refusals text = Refusing.reply-exactly text
+reply_refusals text = Refusing.reply_exactly text
 
 -- R-6: a part with a password, by its type: 31 to 33
 pub part_refusals : (kind : ReplyType) (part : List ℕ) → Exactly (read_number (password_by kind part)) (part_rows kind part)
-part_refusals kind part = Refusing.part-exactly kind part
+part_refusals kind part = Refusing.part_exactly kind part
 
 -- R-7, reading the text of any reply: "34 unknown type, 35 a missing or extra part, both after 30", "then 31 to 33 for the new password and after it for
 -- the present one"; of the parameters nothing is refused. What they are refused with where they are offered is among `call_refusals`.
 pub reply_text_refusals : (text : List ℕ) → Exactly (reply_number (reply_text_of text)) (text_rows text)
-reply_text_refusals text = Refusing.text-exactly text
+reply_text_refusals text = Refusing.text_exactly text
 
 -- The writer of extended replies: 34, "then for `init` types 51, 21, 23, 24, then 40"
 pub extended_writer_refusals : (type password number count : ℕ) (seed : List ℕ) (new room : ℕ)
     → Exactly (written_number (extended_written type password number count seed new room))
     (extended_rows type number count seed ++ room_rows room (text_by_numbers type password number count seed new))
-extended_writer_refusals type password number count seed new room = Refusing.extended-writer-exactly type password number count seed new room
+extended_writer_refusals type password number count seed new room = Refusing.extended_writer_exactly type password number count seed new room
 
 -- 20 to 25
 pub challenge_refusals : (text : List ℕ) → Exactly (challenge_number (challenge_of text)) (challenge_rows text)
-challenge_refusals text = Refusing.challenge-exactly text
+challenge_refusals text = Refusing.challenge_exactly text
 
 -- "the challenge writer 23, 24, 13, 40", and R-1's 21 "first"
 pub challenge_writer_refusals : (number : ℕ) (seed : List ℕ) (count room : ℕ)
     → Exactly (written_number (challenge_written number seed count room))
     (algorithm_rows number ++ seed_rows seed ++ (13, ltb 9999 count) ∷ room_rows room (text_by_number number seed count))
-challenge_writer_refusals number seed count room = Refusing.challenge-writer-exactly number seed count room
+challenge_writer_refusals number seed count room = Refusing.challenge_writer_exactly number seed count room
 
 -- "the word and hex writers only 40"
 pub words_writer_refusals : (p room : ℕ) → Exactly (written_number (written_of room (words_of p))) (room_rows room (words_of p))
-words_writer_refusals p room = Refusing.writer-exactly room (words_of p)
+words_writer_refusals p room = Refusing.writer_exactly room (words_of p)
 
 pub hex_writer_refusals : (p room : ℕ) → Exactly (written_number (written_of room (hex_of p))) (room_rows room (hex_of p))
-hex_writer_refusals p room = Refusing.writer-exactly room (hex_of p)
+hex_writer_refusals p room = Refusing.writer_exactly room (hex_of p)
 
 -- The card writer: "Order: 10, 11, 20 to 25, 70, 40".
 pub card_refusals : (phrase challenge : List ℕ) (k room : ℕ)
     → Exactly (written_number (card_written phrase challenge k room)) (card_rows phrase challenge k ++ room_rows room (card_of phrase challenge k))
-card_refusals phrase challenge k room = Refusing.card-exactly phrase challenge k room
+card_refusals phrase challenge k room = Refusing.card_exactly phrase challenge k room
 
 -- The program `card`, 12 and then the same: it prints `refused` and the number, which has four digits at most, or the card where no
 -- condition holds.
 pub program_refusals : (input : List ℕ) (n : ℕ) → n ≤ 9999 → (answer_of input ≡ refused_with n) ↔ FirstHolds n (program_rows input)
-program_refusals input n h = CardProgram.refused-printed input n h
+program_refusals input n h = CardProgram.refused_printed input n h
 
 pub program_prints : (input : List ℕ) → (answer_of input ≡ card_asked input) ↔ NoneHolds (program_rows input)
-program_prints input = CardProgram.card-printed input
+program_prints input = CardProgram.card_printed input
 
 -- Each call of the table, in every table that calls make, the empty one too. The rows of each are `conditions_of`'s.
 pub call_refusals : (s : State) → Reached s → (c : Call) → Exactly (numbers (answer c s)).0.0 (conditions_of c s)
@@ -185,17 +185,17 @@ call_refusals s r c = call_exactly s (made s r) c
 
 -- What these share: the checks of a pass-phrase, of a seed and of an account's new values, and the reader of hex.
 pub phrase_refusals : (phrase : List ℕ) → Exactly (checked_numbers (phrase_checked phrase)).0 (phrase_rows phrase)
-phrase_refusals phrase = Refusing.phrase-exactly phrase
+phrase_refusals phrase = Refusing.phrase_exactly phrase
 
 pub seed_refusals : (seed : List ℕ) → Exactly (checked_numbers (seed_checked seed)).0 (seed_rows seed)
-seed_refusals seed = Refusing.seed-exactly seed
+seed_refusals seed = Refusing.seed_exactly seed
 
 pub values_refusals : (number count : ℕ) (seed : List ℕ) (present : Room)
     → Exactly (checked_numbers (values_checked number count seed present)).0 (values_rows number count seed present)
-values_refusals number count seed present = Refusing.values-exactly number count seed present
+values_refusals number count seed present = Refusing.values_exactly number count seed present
 
 pub hex_reader_refusals : (s : List ℕ) → Exactly (read_number (hex_reading s)) ((33, not (sixteen_digits s)) ∷ [])
-hex_reader_refusals s = Refusing.hex-reader-exactly s
+hex_reader_refusals s = Refusing.hex_reader_exactly s
 
 -- ---- "the list says what a refusal changes, which is mostly nothing"
 

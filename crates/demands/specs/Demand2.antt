@@ -31,11 +31,11 @@ use Rattle.password.specs.Bounds.{password_bound}
 -- "what we write we read back as the same password": the hex that was written at the front of a buffer, and the words.
 pub hex_read_back : (p : ℕ) → p < 2 ^ 64 → (b b' : List ℕ) (n : ℕ) → Writes (hex_of p) b b' (Written.Wrote n)
     → reading_of (take n b') ≡ Reading.Password p
-hex_read_back p h b b' n w = Laws.hex-read-back p b b' n h w
+hex_read_back p h b b' n w = Laws.hex_read_back p b b' n h w
 
 pub words_read_back : (p : ℕ) → p < 2 ^ 64 → (b b' : List ℕ) (n : ℕ) → Writes (words_of p) b b' (Written.Wrote n)
     → reading_of (take n b') ≡ Reading.Password p
-words_read_back p h b b' n w = Laws.words-read-back p b b' n h w
+words_read_back p h b b' n w = Laws.words_read_back p b b' n h w
 
 -- Every password that the generator gives is such a number.
 pub generated_fits : (algorithm : Algorithm) (phrase seed : List ℕ) (count : ℕ) → password algorithm phrase seed count < 2 ^ 64
@@ -46,18 +46,18 @@ generated_fits algorithm phrase seed count = password_bound algorithm phrase see
 pub six_words_accepted : (text : List ℕ) → length text ≤ 128 → six_words (tokens text) ≡ true
     → ((p : ℕ) × (reading_of text ≡ Reading.Password p)) ↔ ((p : ℕ) × (p < 2 ^ 64) × (map upper_text (tokens text) ≡ six_words_of p))
 six_words_accepted text h e = (
-  λ a. let w = (Laws.words-accepted text h e a.0).0 a.1 in (a.0, w.0, w.1),
-  λ a. (a.0, (Laws.words-accepted text h e a.0).1 (a.1, a.2)),
+  λ a. let w = (Laws.words_accepted text h e a.0).0 a.1 in (a.0, w.0, w.1),
+  λ a. (a.0, (Laws.words_accepted text h e a.0).1 (a.1, a.2)),
 )
 
 pub six_words_accepted_as : (text : List ℕ) → length text ≤ 128 → six_words (tokens text) ≡ true
     → (p : ℕ) → (reading_of text ≡ Reading.Password p) ↔ ((p < 2 ^ 64) × (map upper_text (tokens text) ≡ six_words_of p))
-six_words_accepted_as text h e p = Laws.words-accepted text h e p
+six_words_accepted_as text h e p = Laws.words_accepted text h e p
 
 -- Any other text, exactly if its bytes without white space are the hex digits of a password, in either case.
 pub hex_accepted_as : (text : List ℕ) → length text ≤ 128 → six_words (tokens text) ≡ false
     → (p : ℕ) → (reading_of text ≡ Reading.Password p) ↔ ((p < 2 ^ 64) × (map lower_of (unspaced text) ≡ hex_of p))
-hex_accepted_as text h e p = Laws.hex-accepted text h e p
+hex_accepted_as text h e p = Laws.hex_accepted text h e p
 
 -- A challenge that is written is read back: the algorithm, the count, the seed in lower case, all its bytes, and R-6's mark where it was written with
 -- it, and only there. The seed starts behind `otp-`, the algorithm's name, the count and two spaces.
@@ -87,4 +87,4 @@ pub card_lines : (phrase challenge : List ℕ) (k : ℕ) → card_checked phrase
     ++ card_text password_at (n - i - 1) (k - i - 1))
     × (reading_of (hex_of p) ≡ generated (algorithm_number algorithm) phrase (seed_of challenge) (n - i))
     × (reading_of (words_of p) ≡ generated (algorithm_number algorithm) phrase (seed_of challenge) (n - i))
-card_lines phrase challenge k e i h = CardLaws.card-lines phrase challenge k e i h
+card_lines phrase challenge k e i h = CardLaws.card_lines phrase challenge k e i h

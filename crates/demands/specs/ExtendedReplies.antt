@@ -30,7 +30,7 @@ use Rattle.readback.specs.LaidOut.{colon_refused}
 -- "A text with a colon is an extended reply ..; others are plain": a plain one is read as it was before R-6, and the password is offered, on any table.
 pub plain_is_offered : (port : ℕ) (text : List ℕ) (s : State) → colons text ≡ 0
     → read_and_offered port text s ≡ offered_as port text (with_read (reading_of text) ReplyText.Login) s
-plain_is_offered port text s plain = TextsOffered.plain-offered port text s plain
+plain_is_offered port text s plain = TextsOffered.plain_offered port text s plain
 
 -- "The two `init` types do what Renew does": on any table what is done with an `init` text that can be read is the offer of a renewal with its values and
 -- its two passwords;
@@ -38,7 +38,7 @@ pub init_is_a_renewal : (port : ℕ) (text : List ℕ) (s : State) (number count
     → reply_text_of text ≡ ReplyText.Renewal number count start len new present
     → read_and_offered port text s ≡ offer_renewal port number count (seed_part text start len) new present s
 init_is_a_renewal port text s number count start len new present e =
-    TextsOffered.read-offered port text s (ReplyText.Renewal number count start len new present) e
+    TextsOffered.read_offered port text s (ReplyText.Renewal number count start len new present) e
 
 -- and so it is with the same values, the same new password, and a plain text that is read, or refused, as the present one is (`said_in`: the text's own parts,
 -- each as it is read).
@@ -46,7 +46,7 @@ pub init_does_what_renew_does : (port : ℕ) (text : List ℕ) (s : State) (numb
     → said_in text ≡ Said.Renewal number count start len (Reading.Password new) present
     → (plain : List ℕ) → reading_of plain ≡ present
     → read_and_offered port text s ≡ read_and_renewed port number count (seed_part text start len) new plain s
-init_does_what_renew_does = TextsOffered.init-renewed
+init_does_what_renew_does = TextsOffered.init_renewed
 
 -- An accepted `init` reply doesn't step the count down as a login does: it answers the new one, and in tables that calls make the account for which the
 -- port has the turn has it then, with the new algorithm, seed and password.
@@ -60,13 +60,13 @@ init_takes_the_new_count s r p i n number count start len new present text t e f
       (accepted_renews p n number count seed new present s g).0,
       ap (λ (a : After Replied). account_of i a.state) same
           ∙ next_by_id p i n (Call.OfferRenewal p number count seed new present) s (made s r) t (ap replied_answer g)
-          (Offered.Renewal number count seed new present) (Offers.by-renewal number count seed new present),
+          (Offered.Renewal number count seed new present) (Offers.by_renewal number count seed new present),
     )
 
 -- "Renew's text stays plain; a colon gives 33", and 30 over 128 bytes: on any table, and nothing is offered.
 pub renew_text_stays_plain : (port number count : ℕ) (seed : List ℕ) (new : ℕ) (text : List ℕ) (s : State) → 1 ≤ colons text
     → read_and_renewed port number count seed new text s ≡ reply_refused s (colon_refused text)
-renew_text_stays_plain port number count seed new text s colon = TextsOffered.colon-renewed port number count seed new text s colon
+renew_text_stays_plain port number count seed new text s colon = TextsOffered.colon_renewed port number count seed new text s colon
 
 -- "The table's Challenge writes ` ext` before its newline": in tables that calls make what it writes for the port that has the turn reads back with the
 -- mark, and all its bytes are used. The seed starts behind `otp-`, the algorithm's name, the count and two spaces.

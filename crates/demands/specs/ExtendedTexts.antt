@@ -53,17 +53,17 @@ use Rattle.readback.specs.ExtendedRead as Laws
 -- seed of l bytes at s, exactly if that stands behind the seed.
 pub mark_exactly : (algorithm : Algorithm) (count s l used : ℕ) (ext : Bool) (text : List ℕ)
     → challenge_of text ≡ Challenge.Read algorithm count s l used ext → (ext ≡ true) ↔ MarkBehind text (s + l)
-mark_exactly = Marks.read-marked
+mark_exactly = Marks.read_marked
 
 -- "the bytes used then include it", up to and with the byte that ends it; without a mark they end with the byte that ends the seed.
 pub used_with_the_mark : (algorithm : Algorithm) (count s l used : ℕ) (ext : Bool) (text : List ℕ)
     → challenge_of text ≡ Challenge.Read algorithm count s l used ext → ext ≡ true → (m : MarkBehind text (s + l))
     → used ≡ s + l + length m.blanks + length m.token + 1
-used_with_the_mark = Marks.used-marked
+used_with_the_mark = Marks.used_marked
 
 pub used_without : (algorithm : Algorithm) (count s l used : ℕ) (ext : Bool) (text : List ℕ)
     → challenge_of text ≡ Challenge.Read algorithm count s l used ext → ext ≡ false → used ≡ s + l + 1
-used_without = Marks.used-unmarked
+used_without = Marks.used_unmarked
 
 -- ---- written and read back
 
@@ -73,7 +73,7 @@ pub extended_read_back : (type password number count : ℕ) (seed : List ℕ) (n
     → Written.Wrote n ≡ extended_written type password number count seed new (length b)
     → b' ≡ leaves (Written.Wrote n) (text_by_numbers type password number count seed new) b
     → (kind : ReplyType) × (type_number kind ≡ type) × Says kind password number count seed new (take n b')
-extended_read_back type password number count seed new h k b b' n = Laws.extended-read-back type password number count seed new b b' n h k
+extended_read_back type password number count seed new h k b b' n = Laws.extended_read_back type password number count seed new b b' n h k
 
 -- Two replies of a type that are written alike are one.
 pub written_alike : (kind : ReplyType) (p number count : ℕ) (seed : List ℕ) (new p' number' count' : ℕ) (seed' : List ℕ) (new' : ℕ)
@@ -81,57 +81,57 @@ pub written_alike : (kind : ReplyType) (p number count : ℕ) (seed : List ℕ) 
     → p' < 2 ^ 64 → new' < 2 ^ 64 → renewal_checked kind number' count' seed' ≡ Checked.Good
     → extended_text kind p (algorithm_in (numbered number)) count seed new ≡ extended_text kind p' (algorithm_in (numbered number')) count' seed' new'
     → (p ≡ p') × (is_init kind ≡ true → (number ≡ number') × (count ≡ count') × (seed ≡ seed') × (new ≡ new'))
-written_alike = Laws.written-alike
+written_alike = Laws.written_alike
 
 -- "at most 96 bytes"
 pub extended_length : (kind : ReplyType) (password number count : ℕ) (seed : List ℕ) (new : ℕ) → renewal_checked kind number count seed ≡ Checked.Good
     → length (extended_text kind password (algorithm_in (numbered number)) count seed new) ≤ 96
-extended_length = Laws.extended-length
+extended_length = Laws.extended_length
 
 -- ---- plain texts
 
 -- "A text with a colon is an extended reply ..; others are plain": without a colon a text is read as it was before, to a password or to a refusal.
 pub plain_says_as_before : (text : List ℕ) → colons text ≡ 0 → reply_text_of text ≡ with_read (reading_of text) ReplyText.Login
-plain_says_as_before = Meaning.plain-read
+plain_says_as_before = Meaning.plain_read
 
 -- "Renew's text stays plain; a colon gives 33", behind 30.
 pub colon_is_33 : (text : List ℕ) → 1 ≤ colons text → length text ≤ 128 → reading_of text ≡ Reading.Refused Refusal.ReplyUnread
-colon_is_33 = Meaning.colon-is-33
+colon_is_33 = Meaning.colon_is_33
 
 -- ---- 30, 34, 35
 
 -- 30: "of at most 256 bytes"; a plain one of at most 128, as before.
 pub long_text : (text : List ℕ) → (reply_text_of text ≡ ReplyText.Refused Refusal.ReplyLong) ↔ (most_bytes text < length text)
-long_text = Refusals.long-text
+long_text = Refusals.long_text
 
 -- 34, "after 30": the text starts with no type's name and a colon.
 pub type_unknown : (text : List ℕ) → (reply_text_of text ≡ ReplyText.Refused Refusal.TypeUnknown)
     ↔ ((1 ≤ colons text) × (length text ≤ 256) × ((kind : ReplyType) → OfType kind text → ⊥))
-type_unknown = Refusals.type-unknown
+type_unknown = Refusals.type_unknown
 
 -- 35: it starts with one, and has another number of colons than replies of that type.
 pub parts_wrong : (text : List ℕ) → (reply_text_of text ≡ ReplyText.Refused Refusal.PartsWrong)
     ↔ ((length text ≤ 256) × (kind : ReplyType) × OfType kind text × (colons text ≡ colons_of kind → ⊥))
-parts_wrong = Refusals.parts-wrong
+parts_wrong = Refusals.parts_wrong
 
 -- ---- and then 31 to 33
 
 -- A text of two parts is refused exactly as its password is, whose refusals are told below,
 pub login_refused : (kind : ReplyType) (text present : List ℕ) → length text ≤ 256 → TwoParts kind text present → (why : Refusal)
     → (reply_text_of text ≡ ReplyText.Refused why) ↔ ReadAs (Reading.Refused why) kind present
-login_refused = Refusals.login-refused
+login_refused = Refusals.login_refused
 
 -- and one of four as the new one is, and where that is a password as the present one is: "31 to 33 for the new password, then for the present one. Of the
 -- parameters it refuses nothing", whatever they are.
 pub renewal_refused : (kind : ReplyType) (text present parameters new : List ℕ) → length text ≤ 256 → FourParts kind text present parameters new
     → (why : Refusal) → (reply_text_of text ≡ ReplyText.Refused why)
     ↔ (ReadAs (Reading.Refused why) kind new ⊎ ((p : ℕ) × OfPassword p kind new × ReadAs (Reading.Refused why) kind present))
-renewal_refused = Refusals.renewal-refused
+renewal_refused = Refusals.renewal_refused
 
 -- "30, 34, 35, then 31 to 33 for the new password, then for the present one": every text that is refused is so in one of these cases, and for no other
 -- reason.
 pub text_refused : (text : List ℕ) (why : Refusal) → (reply_text_of text ≡ ReplyText.Refused why) ↔ RefusedBy text why
-text_refused = Refusals.text-refused
+text_refused = Refusals.text_refused
 
 -- "Refusals: none new": reading gives 30 to 35 alone. (Offer gives none of these: Demand1, `offer_refuses_no_text`.)
 pub none_but_30_to_35 : (text : List ℕ) (why : Refusal) → reply_text_of text ≡ ReplyText.Refused why → Between 30 35 why
@@ -143,74 +143,74 @@ none_but_30_to_35 = Refusals.refused_why
 -- that is that password.
 pub login_accepted : (text : List ℕ) → 1 ≤ colons text → (p : ℕ) → (reply_text_of text ≡ ReplyText.Login p)
     ↔ ((kind : ReplyType) × (present : List ℕ) × (length text ≤ 256) × TwoParts kind text present × OfPassword p kind present)
-login_accepted = Meaning.login-accepted
+login_accepted = Meaning.login_accepted
 
 -- "An `init` text reads to two passwords and its new values": a text is read to a renewal with these values and passwords exactly if it is made of the
 -- four parts, which say them.
 pub renewal_accepted : (text : List ℕ) (number count : ℕ) (seed : List ℕ) (new present : ℕ)
     → SaysRenewal text number count seed new present ↔ RenewalParts text number count seed (OfPassword new) (OfPassword present)
-renewal_accepted = Renewals.renewal-accepted
+renewal_accepted = Renewals.renewal_accepted
 
 -- "Of the parameters it refuses nothing": of the four parts, with two passwords, it is read to a renewal whatever the parameters are. They are a name, a
 -- word and a seed, each of which may be missing.
 pub parameters_refuse_nothing : (kind : ReplyType) (text present parameters new : List ℕ) → length text ≤ 256
     → FourParts kind text present parameters new → (q p : ℕ) → OfPassword q kind new → OfPassword p kind present
     → (name word seed : List ℕ) × Spaced parameters name word seed × SaysRenewal text (name_number (named name)) (count_in word) seed q p
-parameters_refuse_nothing = Renewals.parameters-refuse-nothing
+parameters_refuse_nothing = Renewals.parameters_refuse_nothing
 
 -- "an unknown algorithm reads as 0",
 pub algorithm_read : ((algorithm : Algorithm) → name_number (named (algorithm_name algorithm)) ≡ algorithm_number algorithm)
     × ((name : List ℕ) → ((algorithm : Algorithm) → name ≡ algorithm_name algorithm → ⊥) → name_number (named name) ≡ 0)
-algorithm_read = (Parameters.name-read, Parameters.name-unknown)
+algorithm_read = (Parameters.name_read, Parameters.name_unknown)
 
 -- "a count that is no one to four digits without a leading zero as 0, any other as the number it is, 0 and 1 too",
 pub count_read : ((word : List ℕ) → is_count word ≡ false → count_in word ≡ 0) × ((word : List ℕ) → is_count word ≡ true → count_in word ≡ number_of 10 word)
     × ((n : ℕ) → n ≤ 9999 → count_in (decimal_of n) ≡ n)
-count_read = (Parameters.count-unread, Parameters.count-number, Parameters.count-read)
+count_read = (Parameters.count_unread, Parameters.count_number, Parameters.count_read)
 
 -- and "the seed as the part of the caller's text where it stands, of any length", which lies within the text. "Where there is no seed, the part is the
 -- empty one at the start of the text."
 pub seed_stands_within : (text : List ℕ) (number count start len new present : ℕ)
     → reply_text_of text ≡ ReplyText.Renewal number count start len new present → (start + len ≤ length text) × (len ≡ 0 → start ≡ 0)
-seed_stands_within = Renewals.seed-stands-within
+seed_stands_within = Renewals.seed_stands_within
 
 -- and which part that is: the one behind the count. `Spaced` has the white space around the name and the count.
 pub seed_stands_there : (kind : ReplyType) (text present parameters new : List ℕ) → length text ≤ 256 → FourParts kind text present parameters new
     → (name word seed : List ℕ) (s : Spaced parameters name word seed) → 1 ≤ length seed
     → (number count start len q p : ℕ) → reply_text_of text ≡ ReplyText.Renewal number count start len q p
     → start ≡ length (type_name kind) + length present + 2 + (length s.white + length name + length s.white₁ + length word + length s.white₂)
-seed_stands_there = Renewals.seed-stands-there
+seed_stands_there = Renewals.seed_stands_there
 
 -- "A missing one is empty": it is read as 0, which is no algorithm's number, and which 51 refuses as a count. Without a name there is no count either,
 -- and without a count no seed.
 pub missing_is_empty : (name_number (named []) ≡ 0) × (count_in [] ≡ 0)
-missing_is_empty = Parameters.missing-said
+missing_is_empty = Parameters.missing_said
 
 pub nothing_behind_a_missing_one : (part name count seed : List ℕ)
     → (Spaced part [] count seed → count ≡ []) × (Spaced part name [] seed → seed ≡ [])
-nothing_behind_a_missing_one part name count seed = (Parameters.name-missing part count seed, Parameters.count-missing part name seed)
+nothing_behind_a_missing_one part name count seed = (Parameters.name_missing part count seed, Parameters.count_missing part name seed)
 
 -- A part is a password exactly if it is written with it, apart from case and white space: in hex for `hex` types, in words for the others.
 pub part_accepted : (kind : ReplyType) (part : List ℕ) (p : ℕ) → (password_by kind part ≡ Reading.Password p) ↔ OfPassword p kind part
-part_accepted = Parts.part-accepted
+part_accepted = Parts.part_accepted
 
 -- ---- 33, 31 and 32 of a part
 
 -- "33 also where the text isn't of its type"
 pub hex_part_refused : (kind : ReplyType) (part : List ℕ) → is_hex kind ≡ true → (why : Refusal)
     → (password_by kind part ≡ Reading.Refused why) ↔ ((sixteen_digits (unspaced part) ≡ false) × (why ≡ Refusal.ReplyUnread))
-hex_part_refused = Parts.hex-part-refused
+hex_part_refused = Parts.hex_part_refused
 
 pub word_part_unread : (kind : ReplyType) (part : List ℕ) → is_hex kind ≡ false
     → (password_by kind part ≡ Reading.Refused Refusal.ReplyUnread) ↔ (six_words (tokens part) ≡ false)
-word_part_unread = Parts.word-part-unread
+word_part_unread = Parts.word_part_unread
 
 -- 31 by the marks of R-2, as for plain replies
 pub word_part_unknown : (kind : ReplyType) (part : List ℕ) → is_hex kind ≡ false → six_words (tokens part) ≡ true
     → (m : ℕ) → (password_by kind part ≡ Reading.Refused (Refusal.WordUnknown m)) ↔ Marked (map upper_text (tokens part)) m
-word_part_unknown = Parts.word-part-unknown
+word_part_unknown = Parts.word_part_unknown
 
 -- and 32
 pub word_part_sum : (kind : ReplyType) (part : List ℕ) → is_hex kind ≡ false → six_words (tokens part) ≡ true
     → (password_by kind part ≡ Reading.Refused Refusal.PairSumWrong) ↔ SumRefused (map upper_text (tokens part))
-word_part_sum = Parts.word-part-sum
+word_part_sum = Parts.word_part_sum

@@ -67,26 +67,26 @@ after_without Call.Tick s = record { rooms = s.rooms; ports = map cooled s.ports
 
 -- So it is in every table that calls make.
 pub empty_answers : (s : State) → Reached s → accounts_in s.rooms ≡ 0 → (c : Call) → answer c s ≡ answer_without c
-empty_answers s r none (Call.Enrol id number count seed password) = (enrol_first s none (made s r).room-count id number count seed password).0
+empty_answers s r none (Call.Enrol id number count seed password) = (enrol_first s none (made s r).room_count id number count seed password).0
 empty_answers s r none (Call.Remove id) = (remove_nobody s none id).0
 empty_answers s r none (Call.Join port id) = (join_nobody s none port id).0
 empty_answers s r none (Call.Leave port) = (leave_outside s (made s r) none port).0
 empty_answers s r none (Call.Challenge port room) = (challenge_nobody s none port room).0 ∙ ap checked_answer (turn_outside s (made s r) none port)
 empty_answers s r none (Call.Offer port password) =
-    (offers_nobody s none port _ _ (Offers.by-offer password)).0 ∙ ap checked_answer (turn_outside s (made s r) none port)
+    (offers_nobody s none port _ _ (Offers.by_offer password)).0 ∙ ap checked_answer (turn_outside s (made s r) none port)
 empty_answers s r none (Call.OfferRenewal port number count seed new password) =
-    (offers_nobody s none port _ _ (Offers.by-renewal number count seed new password)).0 ∙ ap checked_answer (turn_outside s (made s r) none port)
+    (offers_nobody s none port _ _ (Offers.by_renewal number count seed new password)).0 ∙ ap checked_answer (turn_outside s (made s r) none port)
 empty_answers s r none Call.Tick = refl
 
 pub empty_after : (s : State) → Reached s → accounts_in s.rooms ≡ 0 → (c : Call) → after c s ≡ after_without c s
-empty_after s r none (Call.Enrol id number count seed password) = (enrol_first s none (made s r).room-count id number count seed password).1
+empty_after s r none (Call.Enrol id number count seed password) = (enrol_first s none (made s r).room_count id number count seed password).1
 empty_after s r none (Call.Remove id) = (remove_nobody s none id).1
 empty_after s r none (Call.Join port id) = (join_nobody s none port id).1
 empty_after s r none (Call.Leave port) = (leave_outside s (made s r) none port).1
 empty_after s r none (Call.Challenge port room) = refl
-empty_after s r none (Call.Offer port password) = (offers_nobody s none port _ _ (Offers.by-offer password)).1
+empty_after s r none (Call.Offer port password) = (offers_nobody s none port _ _ (Offers.by_offer password)).1
 empty_after s r none (Call.OfferRenewal port number count seed new password) =
-    (offers_nobody s none port _ _ (Offers.by-renewal number count seed new password)).1
+    (offers_nobody s none port _ _ (Offers.by_renewal number count seed new password)).1
 empty_after s r none Call.Tick = tick_cools s (made s r) none
 
 -- "A table .. that no calls could make is still answered": there a port may be in line for an account that isn't there. Leave is done,
@@ -111,7 +111,7 @@ any_empty_answers s rooms none (Call.Remove id) = (remove_nobody s none id).0
 any_empty_answers s rooms none (Call.Join port id) = (join_nobody s none port id).0
 any_empty_answers s rooms none (Call.Leave port) = leave_answer port s
 any_empty_answers s rooms none (Call.Challenge port room) = (challenge_nobody s none port room).0
-any_empty_answers s rooms none (Call.Offer port password) = (offers_nobody s none port _ _ (Offers.by-offer password)).0
+any_empty_answers s rooms none (Call.Offer port password) = (offers_nobody s none port _ _ (Offers.by_offer password)).0
 any_empty_answers s rooms none (Call.OfferRenewal port number count seed new password) =
-    (offers_nobody s none port _ _ (Offers.by-renewal number count seed new password)).0
+    (offers_nobody s none port _ _ (Offers.by_renewal number count seed new password)).0
 any_empty_answers s rooms none Call.Tick = refl

@@ -22,22 +22,22 @@ use Rattle.grounds.specs.TextsOffered as TextsOffered
 -- answer and table are those of R-6's Reply where the text is read, and where it isn't, the reading's refusal and the table as it was.
 pub read_then_offer_is_reply : (port : ℕ) (text : List ℕ) (s : State)
     → read_and_offered port text s ≡ unless (reply_refused s) (text_checked (reply_text_of text)) (old.reply port text s)
-read_then_offer_is_reply port text s = TextsOffered.reply-as-before port text s
+read_then_offer_is_reply port text s = TextsOffered.reply_as_before port text s
 
 -- "Renew is split likewise." R-6's Renew had the new password as eight bytes.
 pub read_then_offer_is_renew : (port number count : ℕ) (seed new text : List ℕ) (s : State)
     → read_and_renewed port number count seed (number_of new) text s
     ≡ unless (reply_refused s) (read_checked (reading_of text)) (old.renew port number count seed new text s)
-read_then_offer_is_renew port number count seed new text s = TextsOffered.renew-as-before port text s number count seed new
+read_then_offer_is_renew port number count seed new text s = TextsOffered.renew_as_before port text s number count seed new
 
 -- So where the reading refuses, that refusal is the answer and the table is as it was, whatever Offer would have refused;
 pub reading_refusal_first : (port : ℕ) (text : List ℕ) (s : State) (why : Refusal) → reply_text_of text ≡ ReplyText.Refused why
     → read_and_offered port text s ≡ reply_refused s why
-reading_refusal_first port text s why e = TextsOffered.read-offered port text s (ReplyText.Refused why) e
+reading_refusal_first port text s why e = TextsOffered.read_offered port text s (ReplyText.Refused why) e
 
 pub reading_refusal_first_in_renewal : (port number count : ℕ) (seed : List ℕ) (new : ℕ) (text : List ℕ) (s : State) (why : Refusal)
     → reading_of text ≡ Reading.Refused why → read_and_renewed port number count seed new text s ≡ reply_refused s why
-reading_refusal_first_in_renewal port number count seed new text s why e = TextsOffered.plain-renewed port number count seed new text s (Reading.Refused why) e
+reading_refusal_first_in_renewal port number count seed new text s why e = TextsOffered.plain_renewed port number count seed new text s (Reading.Refused why) e
 
 -- and where it doesn't, answer and table are R-6's.
 pub read_is_reply : (port : ℕ) (text : List ℕ) (s : State) → text_checked (reply_text_of text) ≡ Checked.Good
@@ -55,21 +55,21 @@ read_is_renew port number count seed new text s e =
 -- 51, 21, 23, 24, 63 (`checked_before`). So the order is all that changed.
 pub old_reply_refused_so_too : (port : ℕ) (text : List ℕ) (s : State) (why : Refusal) → reply_text_of text ≡ ReplyText.Refused why
     → old.reply port text s ≡ unless (reply_refused s) (old.checked_before port text (said_in text) s) (reply_refused s why)
-old_reply_refused_so_too port text s why e = TextsOffered.reply-refused-before port text s why e
+old_reply_refused_so_too port text s why e = TextsOffered.reply_refused_before port text s why e
 
 pub old_renew_refused_so_too : (port number count : ℕ) (seed new text : List ℕ) (s : State) (why : Refusal) → reading_of text ≡ Reading.Refused why
     → old.renew port number count seed new text s ≡ unless (reply_refused s) (renew_checked port number count seed s) (reply_refused s why)
-old_renew_refused_so_too port number count seed new text s why e = TextsOffered.renew-refused-before port text s number count seed new why e
+old_renew_refused_so_too port number count seed new text s why e = TextsOffered.renew_refused_before port text s number count seed new why e
 
 -- Where the table refuses nothing of these, answer and table are R-6's for every text, read or not.
 pub same_where_the_table_refuses_nothing : (port : ℕ) (text : List ℕ) (s : State) → old.checked_before port text (said_in text) s ≡ Checked.Good
     → read_and_offered port text s ≡ old.reply port text s
-same_where_the_table_refuses_nothing port text s good = TextsOffered.reply-unchanged port text s good
+same_where_the_table_refuses_nothing port text s good = TextsOffered.reply_unchanged port text s good
 
 -- What a text is read to is what is offered: a password to log in (a renewal: ExtendedReplies, `init_is_a_renewal`).
 pub login_is_offered : (port password : ℕ) (text : List ℕ) (s : State) → reply_text_of text ≡ ReplyText.Login password
     → read_and_offered port text s ≡ offer port password s
-login_is_offered port password text s e = TextsOffered.read-offered port text s (ReplyText.Login password) e
+login_is_offered port password text s e = TextsOffered.read_offered port text s (ReplyText.Login password) e
 
 -- "The radio module delivers eight raw bytes and no text": the bytes of a password, offered as the number that they are, do what every text does that is
 -- read to that password.

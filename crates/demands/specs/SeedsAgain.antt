@@ -42,7 +42,7 @@ pub refused_63_exactly : (p number count : ℕ) (seed : List ℕ) (new present :
     → Offers p (Offered.Renewal number count seed new present) c
     → (answer c s ≡ Answer.Refused Refusal.SeedSame)
     ↔ ((before_same p number count seed s ≡ Checked.Good) × (is_one_of (map lower_of seed) (remembered (own_account p s)) ≡ true))
-refused_63_exactly p number count seed new present c s own = Remembering.remembered-exactly p number count seed new present c s own
+refused_63_exactly p number count seed new present c s own = Remembering.remembered_exactly p number count seed new present c s own
 
 -- ---- "An account shall remember its last eight seeds, the present one included"
 
@@ -62,22 +62,22 @@ pub renewal_remembers_by_id : (s : State) → Reached s → (p i n number count 
     → Offers p (Offered.Renewal number count seed new present) c → answer c s ≡ Answer.Count n
     → remembered (account_of i (after c s)) ≡ map lower_of seed ∷ take 7 (remembered (account_of i s))
 renewal_remembers_by_id s r p i n number count seed new present c t own e =
-    Remembering.renewed-by-id p i n c s (made s r) t e number count seed new present own
+    Remembering.renewed_by_id p i n c s (made s r) t e number count seed new present own
 
 -- A refused or wrong renewal remembers nothing. Nor does any other call that is refused: on any table every account remembers what it did.
 pub refused_remembers_nothing : (why : Refusal) (c : Call) (s : State) → answer c s ≡ Answer.Refused why → (i : ℕ)
     → remembered (account_of i (after c s)) ≡ remembered (account_of i s)
-refused_remembers_nothing why c s e i = ap remembered (Remembering.refused-keeps why c s e i)
+refused_remembers_nothing why c s e i = ap remembered (Remembering.refused_keeps why c s e i)
 
 -- Nor does a call that neither renews nor removes the account, as when another is renewed: on any table.
 pub unrenewed_remembers_nothing : (s : State) (i : ℕ) → is_there i s ≡ true → (c : Call) → keeps_account i c ≡ true → (Renews i s c → ⊥)
     → remembered (account_of i (after c s)) ≡ remembered (account_of i s)
-unrenewed_remembers_nothing s i there c k other = Remembering.unrenewed-remembers s i there c k other
+unrenewed_remembers_nothing s i there c k other = Remembering.unrenewed_remembers s i there c k other
 
 -- And over any call that doesn't remove it an account whose seed stays remembers what it did.
 pub same_seed_remembers_nothing : (s : State) (i : ℕ) → is_there i s ≡ true → (c : Call) → keeps_account i c ≡ true
     → (account_of i (after c s)).seed ≡ (account_of i s).seed → remembered (account_of i (after c s)) ≡ remembered (account_of i s)
-same_seed_remembers_nothing s i there c k e = Remembering.same-seed-keeps s i there c k e
+same_seed_remembers_nothing s i there c k e = Remembering.same_seed_keeps s i there c k e
 
 -- So in every table that calls make an account remembers one to eight seeds, the present one first. They are different, each of 1 to 16
 -- lower-case letters and digits.
@@ -117,12 +117,12 @@ enrol_begins_with_one s i number count seed password e = ap remembered (enrolled
 -- Each renewal of the account adds its seed to those that it has one after the other,
 pub renewal_adds_one : (s : State) → Reached s → (i : ℕ) (c : Call) → Renews i s c
     → (calls : List Call) → seeds_along i (c ∷ calls) s ≡ (account_of i s).seed ∷ seeds_along i calls (after c s)
-renewal_adds_one s r i c renewing calls = Remembering.renewed-adds i c s (made s r) renewing calls
+renewal_adds_one s r i c renewing calls = Remembering.renewed_adds i c s (made s r) renewing calls
 
 -- and no other call adds one: on any table, unless it removes the account.
 pub only_renewal_adds : (s : State) (i : ℕ) → is_there i s ≡ true → (c : Call) → keeps_account i c ≡ true → (Renews i s c → ⊥)
     → (calls : List Call) → seeds_along i (c ∷ calls) s ≡ seeds_along i calls (after c s)
-only_renewal_adds s i there c k other calls = Remembering.unrenewed-adds s i there c k other calls
+only_renewal_adds s i there c k other calls = Remembering.unrenewed_adds s i there c k other calls
 
 -- Any nine seeds that it has one after the other are different: on any table, whatever is called, unless it is removed.
 pub nine_seeds_differ : (s : State) (i : ℕ) → is_there i s ≡ true → (calls : List Call) → every (keeps_account i) calls ≡ true

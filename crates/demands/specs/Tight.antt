@@ -13,13 +13,13 @@ use Rattle.grounds.specs.LongestWait as LongestWait
 use Rattle.grounds.specs.LongestWait.{three_wait, has_turn_after}
 
 pub fourth_joins : (algorithm : Algorithm) → (join 3 1 (run (three_wait algorithm) fresh)).answer ≡ Checked.Good
-fourth_joins algorithm = LongestWait.fourth-joins algorithm
+fourth_joins algorithm = LongestWait.fourth_joins algorithm
 
 -- Not after 0 to 179 ticks, and then after 180.
 pub waits_180_ticks : (algorithm : Algorithm)
     → (every (λ n. not (has_turn_after algorithm n)) (up_to 180 (λ n. n)) ≡ true) × (has_turn_after algorithm 180 ≡ true)
-waits_180_ticks algorithm = LongestWait.waits-180-ticks algorithm
+waits_180_ticks algorithm = LongestWait.waits_180_ticks algorithm
 
 -- With 179 ticks the demand's first sentence would not hold.
 pub not_sooner : (algorithm : Algorithm) → TurnBegins 3 1 179 (replicate 180 Call.Tick) (join 3 1 (run (three_wait algorithm) fresh)).state → ⊥
-not_sooner algorithm = LongestWait.not-sooner algorithm
+not_sooner algorithm = LongestWait.not_sooner algorithm

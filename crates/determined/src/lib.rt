@@ -1,1 +1,2 @@
 // Each public function's promise determines its results. No code.
+#![tactic(auto)]

@@ -39,7 +39,7 @@ unfoldable pub colons : List ℕ → ℕ
 colons [] = 0
 colons (b ∷ s) = cond (in_part b) (colons s) (suc (colons s))
 
--- Two parts for `hex` and `word`, four for `init_hex` and `init_word`: so many colons.
+-- Two parts for `hex` and `word`, four for `init-hex` and `init-word`: so many colons.
 abbrev pub colons_of : ReplyType → ℕ
 colons_of kind = cond (is_init kind) 3 1
 

@@ -1,4 +1,4 @@
--- 02, R-6: "the types `hex`, `word`, `init_hex` and `init_word` as that RFC lays them out": RFC 2243. By name, and by number for C.
+-- 02, R-6: "the types `hex`, `word`, `init-hex` and `init-word` as that RFC lays them out": RFC 2243. By name, and by number for C.
 use Rattle.std.specs.Prelude.{ℕ, Bool, true, false, cond, List, eqb}
 use Rattle.refusal.specs.declared.Refusal.{Refusal}
 use Rattle.refusal.specs.declared.Checked.{Checked}
@@ -10,8 +10,8 @@ use Rattle.extended.specs.declared.reply_types.Typed.{Typed}
 unfoldable pub type_name : ReplyType → List ℕ
 type_name ReplyType.Hex = codes "hex"
 type_name ReplyType.Word = codes "word"
-type_name ReplyType.InitHex = codes "init_hex"
-type_name ReplyType.InitWord = codes "init_word"
+type_name ReplyType.InitHex = codes "init-hex"
+type_name ReplyType.InitWord = codes "init-word"
 
 abbrev pub type_number : ReplyType → ℕ
 type_number ReplyType.Hex = 1

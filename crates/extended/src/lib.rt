@@ -1,4 +1,5 @@
 // A reply's text read, plain or extended, and extended ones written. RFC 2243; document 02, R-6 and R-7.
+#![tactic(auto)]
 
 // The four types, by name and by number, and what goes by the type.
 mod reply_types;

@@ -10,7 +10,7 @@ use text::kinds::{Kind, is_white};
 use text::scan::{run, stretch_at};
 
 // The algorithm's number, the count, and where in the part the seed stands. What isn't an algorithm, or isn't a count, is 0.
-#[derive(Drop)]
+#[derive(Clone, Copy)]
 pub struct Parameters {
     pub algorithm: u32,
     pub count: u16,

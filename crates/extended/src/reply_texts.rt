@@ -14,7 +14,7 @@ use reply::read_six;
 
 // A password to log in; or a renewal, with new values as they stand in the text (the algorithm by its number, or 0; the count, or 0; where the seed
 // stands), the new password and the present one. The values are refused where they are offered, and not here.
-#[derive(Drop)]
+#[derive(Clone, Copy)]
 pub enum ReplyText {
     Login(u64),
     Renewal {

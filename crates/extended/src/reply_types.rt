@@ -5,7 +5,7 @@ ghost use Rattle.extended.specs.ReplyTypes as spec;
 use text::scan::same;
 
 // How a password is given, as sixteen hex digits or as six words, and whether new values and a new password come with it: a renewal.
-#[derive(Drop)]
+#[derive(Clone, Copy)]
 pub enum ReplyType {
     Hex,
     Word,
@@ -14,7 +14,7 @@ pub enum ReplyType {
 }
 
 // A type, if it is one of the four.
-#[derive(Drop)]
+#[derive(Clone, Copy)]
 pub enum Typed {
     Is(ReplyType),
     Unknown,

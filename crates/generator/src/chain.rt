@@ -9,7 +9,7 @@ use digests::Order;
 use password::algorithm::Algorithm;
 
 // The first word of the block, and the second.
-#[derive(Drop)]
+#[derive(Clone, Copy)]
 struct Words(u32, u32);
 
 // The 8 bytes of a password as two words. From eight single bytes the compiler made shifts and masks; from the

@@ -178,7 +178,7 @@ module _ (p i : ℕ) (phrase : List ℕ) (s : State) (m : Made s) (t : HasTurn p
   own_challenge_read =
       let account = own_account p s in
       let right = seed_checked_lem account.seed own_good.seeds.0 in
-      let most = own_good.count-to in
+      let most = own_good.count_to in
       let low : account.count - 1 ≤ 9999 = omega arith in (
         written_read true account.algorithm account.seed (account.count - 1) right low,
         written_seed_read true account.algorithm account.seed (account.count - 1) right low ∙ (kept_seed account.seed own_good.seeds.0.kept).0,
@@ -220,7 +220,7 @@ module _ (p i : ℕ) (phrase : List ℕ) (s : State) (m : Made s) (t : HasTurn p
       let seed = old.seed in
       let count = old.count - 1 in
       let right = seed_checked_lem seed own_good.seeds.0 in
-      let most = own_good.count-to in
+      let most = own_good.count_to in
       let low : count ≤ 9999 = omega arith in
       let checked = turn_checked_lem p s facts.1 facts.2 (turn_has p i s m t) (λ z. (there_parts i s.rooms facts.0).0 (sym with_id_lem ∙ z)) unused in
       let new = password algorithm phrase seed count in
@@ -282,8 +282,8 @@ day_then : (p i : ℕ) (phrase buffer : List ℕ) (s t : State) → account_of i
     → Day p i phrase buffer s t
 day_then p i phrase buffer s t same now next =
     let counts : next.count ≡ now.count = omega (arith, now.count_less, next.count_less, ap (λ (room : Room). room.count) same) in
-    let one : next.generated-as ≡ now.generated-as =
-    next.generated-is ∙ (λ k. password_of phrase (same k) (counts k)) ∙ sym now.generated-is in
+    let one : next.generated_as ≡ now.generated_as =
+    next.generated_is ∙ (λ k. password_of phrase (same k) (counts k)) ∙ sym now.generated_is in
     record {
       written = now.written;
       algorithm = now.algorithm;
@@ -291,18 +291,18 @@ day_then p i phrase buffer s t same now next =
       start = now.start;
       len = now.len;
       used = now.used;
-      generated_as = now.generated-as;
+      generated_as = now.generated_as;
       challenge-written = now.challenge-written;
-      challenge_read = now.challenge-read;
-      password_generated = now.password-generated;
-      algorithm_own = now.algorithm-own;
+      challenge_read = now.challenge_read;
+      password_generated = now.password_generated;
+      algorithm_own = now.algorithm_own;
       count_less = now.count_less;
-      generated_is = now.generated-is;
+      generated_is = now.generated_is;
       read_accepted = moved (λ (n w : ℕ). (text : List ℕ) → ReadsLogin w text → Accepts i n w t (read_and_offered p text t)) counts one
-          next.read-accepted;
+          next.read_accepted;
       each_accepted = moved (λ (n w : ℕ). Each (λ (text : List ℕ). Accepts i n w t (read_and_offered p text t)) (replies_of w)) counts one
-          next.each-accepted;
-      raw_accepted = moved (λ (n w : ℕ). Accepts i n w t (offer p (number_of (bytes_of w)) t)) counts one next.raw-accepted;
+          next.each_accepted;
+      raw_accepted = moved (λ (n w : ℕ). Accepts i n w t (offer p (number_of (bytes_of w)) t)) counts one next.raw_accepted;
     }
 
 pub day_later : (p i : ℕ) (phrase buffer : List ℕ) (s : State) → Made s → HasTurn p i s → 1 < (account_of i s).count → phrase_checked phrase ≡ Checked.Good

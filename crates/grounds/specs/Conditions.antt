@@ -162,7 +162,7 @@ is_plain text = eqb (colons text) 0
 
 -- One of the four names.
 abbrev pub is_type : List ℕ → Bool
-is_type name = same name (codes "hex") || same name (codes "word") || same name (codes "init_hex") || same name (codes "init_word")
+is_type name = same name (codes "hex") || same name (codes "word") || same name (codes "init-hex") || same name (codes "init-word")
 
 -- An extended reply's type, where it is one of the four.
 abbrev pub type_of : List ℕ → ReplyType

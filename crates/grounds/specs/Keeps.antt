@@ -212,7 +212,7 @@ ports_after c s (Outcome.ticked z o) = length-map s.ports cooled
 -- A table that calls make is one whose accounts and lines are apart.
 pub made_housed : (s : State) → Made s → Housed s
 made_housed s m = record {
-  all = m.room-count;
+  all = m.room_count;
   once = apart_once s.rooms m.apart;
   idle = m.idle;
   single = m.once;
@@ -241,7 +241,7 @@ pub made_after : (c : Call) (s : State) → Made s → Made (after c s)
 made_after c s m =
     let did = outcome c s in
     housed_made (after c s) (housed_after c s (made_housed s m)) (unshut_after c s did m.unshut) (right_after c s did (m.good, m.turns))
-    (ports_after c s did ∙ m.port-count) (runs_after c s did m.runs)
+    (ports_after c s did ∙ m.port_count) (runs_after c s did m.runs)
 
 -- Several.
 pub made_run : (calls : List Call) (s : State) → Made s → Made (run calls s)

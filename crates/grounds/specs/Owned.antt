@@ -119,12 +119,12 @@ call_steps_seeds s i h c q =
 
 -- A call that offers something removes no account, and is quiet for every other port; it keeps the algorithm unless it is a renewal.
 offers_keeps : (p q i : ℕ) (what : Offered) (c : Call) → Offers p what c → (keeps_account i c ≡ true) × (quiet q i c ≡ not (eqb p q))
-offers_keeps p q i what c (Offers.by-offer password) = (refl, refl)
-offers_keeps p q i what c (Offers.by-renewal number count seed new password) = (refl, refl)
+offers_keeps p q i what c (Offers.by_offer password) = (refl, refl)
+offers_keeps p q i what c (Offers.by_renewal number count seed new password) = (refl, refl)
 
 pub login_keeps : (p i : ℕ) (what : Offered) (c : Call) → Offers p what c → renews what ≡ false → keeps_algorithm i c ≡ true
-login_keeps p i what c (Offers.by-offer password) e = refl
-login_keeps p i what c (Offers.by-renewal number count seed new password) e = absurd (true≢false e)
+login_keeps p i what c (Offers.by_offer password) e = refl
+login_keeps p i what c (Offers.by_renewal number count seed new password) e = absurd (true≢false e)
 
 -- The whole account, over a reply or a renewal by a port that hasn't the turn for it; on any table.
 pub other_port_keeps : (p i : ℕ) (what : Offered) (c : Call) (s : State) → Offers p what c → is_there i s ≡ true → has_turn_for p i s ≡ false

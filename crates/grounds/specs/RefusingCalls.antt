@@ -93,7 +93,7 @@ enrol_rows id number count seed password s m =
     (λ b. then_check (algorithm_checked (numbered number)) _ (algorithm_rows number) _ (algorithm_rows_lem number)
     (λ c. then_check (seed_checked seed) _ (seed_rows seed) _ (seed_rows_lem seed)
     (λ d. then_test (not (is_there id s)) _ Refusal.IdTaken _ _ (not-not (is_there id s))
-    (λ e. then_test (holds 0 s.rooms) _ Refusal.TableFull _ _ (full s.rooms m.room-count) (λ f. no_rows Checked.Good refl)))))))
+    (λ e. then_test (holds 0 s.rooms) _ Refusal.TableFull _ _ (full s.rooms m.room_count) (λ f. no_rows Checked.Good refl)))))))
     (λ e. no_rows Checked.Good refl)
 
 remove_rows : (id : ℕ) (s : State) → Follows (settled_checked (Steps.remove id s)) (conditions_of (Call.Remove id) s)
@@ -110,7 +110,7 @@ join_rows port id s m =
     (λ b. then_test (not (waits port s)) _ Refusal.PortInLine _ _ (not-not (waits port s))
     (λ c. then_test (eqb (port_of port s).shut 0) _ Refusal.PortShut _ _ refl
     (λ d. then_test (ltb 1 (account_of id s).count) _ Refusal.AccountUsedUp _ _
-    (used_up (account_of id s).count (account_good id s b m.good).count-from) (λ e. no_rows Checked.Good refl))))))
+    (used_up (account_of id s).count (account_good id s b m.good).count_from) (λ e. no_rows Checked.Good refl))))))
     (λ e. no_rows Checked.Good refl)
 
 leave_rows : (port : ℕ) (s : State) → Follows (settled_checked (Steps.leave port s)) (conditions_of (Call.Leave port) s)
@@ -135,7 +135,7 @@ turn_rows_lem port s m =
     then_check (account_held (own_account port s)) _ [] _
     (no_rows _ (must-true Refusal.AccountMissing (ap not (ne_eqb (own_account port s).id 0 there))))
     (λ d. then_test (ltb 1 (own_account port s).count) _ Refusal.AccountUsedUp _ _
-    (used_up (own_account port s).count (held_good (stands_at port s.rooms) s m.good there).count-from) (λ e. no_rows Checked.Good refl)))))
+    (used_up (own_account port s).count (held_good (stands_at port s.rooms) s m.good there).count_from) (λ e. no_rows Checked.Good refl)))))
 
 -- The challenge writer's own checks, 23, 24 and 13, find nothing wrong with a good account.
 challenge_rows_lem : (port room : ℕ) (s : State) → Made s
@@ -147,7 +147,7 @@ challenge_rows_lem port room s m =
     let seed = (own_account port s).seed in
     let count = (own_account port s).count - 1 in
     let good = held_good (stands_at port s.rooms) s m.good (turn_good port s e).there in
-    let most = good.count-to in
+    let most = good.count_to in
     let low : count ≤ 9999 = omega arith in
     rw (seed_checked_lem seed good.seeds.0, le-ltb 9999 count low) (room_rows_lem room (challenge_for port s)))
 

@@ -174,9 +174,9 @@ module _ (s : State) (i : ℕ) (h : is_there i s ≡ true) where
   unrenewed_remembers (Call.Join port id) q n = (unrenewed_keeps s i h (Call.Join port id) q).1
   unrenewed_remembers (Call.Leave port) q n = (unrenewed_keeps s i h (Call.Leave port) q).1
   unrenewed_remembers (Call.Challenge port room) q n = refl
-  unrenewed_remembers (Call.Offer port password) q n = offer_remembers port _ _ (Offers.by-offer password) n
+  unrenewed_remembers (Call.Offer port password) q n = offer_remembers port _ _ (Offers.by_offer password) n
   unrenewed_remembers (Call.OfferRenewal port number count seed new password) q n =
-      offer_remembers port _ _ (Offers.by-renewal number count seed new password) n
+      offer_remembers port _ _ (Offers.by_renewal number count seed new password) n
   unrenewed_remembers Call.Tick q n = (unrenewed_keeps s i h Call.Tick q).1
 
   -- So its seed is the same, and none is added to those that it has one after the other.

@@ -106,14 +106,14 @@ module _ (p n : ℕ) (what : Offered) (s : State) where
 -- Of the two offers, by what they answer.
 pub login_taken : (p n password : ℕ) (s : State) → (offer p password s).answer ≡ Replied.Accepted n
     → Taken p n (Offered.Login password) s (offer p password s).state
-login_taken p n password s e = call_taken p n (Offered.Login password) s (Call.Offer p password) (Offers.by-offer password) (ap replied_answer e)
+login_taken p n password s e = call_taken p n (Offered.Login password) s (Call.Offer p password) (Offers.by_offer password) (ap replied_answer e)
 
 pub renewal_taken : (p n number count : ℕ) (seed : List ℕ) (new present : ℕ) (s : State)
     → (offer_renewal p number count seed new present s).answer ≡ Replied.Accepted n
     → Taken p n (Offered.Renewal number count seed new present) s (offer_renewal p number count seed new present s).state
 renewal_taken p n number count seed new present s e =
     call_taken p n (Offered.Renewal number count seed new present) s (Call.OfferRenewal p number count seed new present)
-    (Offers.by-renewal number count seed new present) (ap replied_answer e)
+    (Offers.by_renewal number count seed new present) (ap replied_answer e)
 
 -- ---- a login
 

@@ -70,7 +70,7 @@ module _ (p i : ℕ) where
       cases (has_turn_for p i s) (λ e. now_begins limit [] s f e)
       (λ e.
       let least = some_wait p (line_of i s).ports (line_of i s).turn (standing_of s m i).turn k.stands e in
-      let most = k.most-wait in
+      let most = k.most_wait in
       absurd (omega arith))
   wait_ends (c ∷ cs) limit s m k f q t =
       cases (has_turn_for p i s) (λ e. now_begins limit (c ∷ cs) s f e)

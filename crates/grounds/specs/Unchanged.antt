@@ -67,7 +67,7 @@ module _ (why : Refusal) (other : is_in (listing_of why).0 (61 ∷ 62 ∷ []) �
   refused_unchanged (Call.Join port id) s e = settled_unchanged s _ why (join_checked port id s) e
   refused_unchanged (Call.Leave port) s e = settled_unchanged s _ why (leave_checked port s) e
   refused_unchanged (Call.Challenge port room) s e = refl
-  refused_unchanged (Call.Offer port password) s e = offer_unchanged port _ _ s (Offers.by-offer password) e
+  refused_unchanged (Call.Offer port password) s e = offer_unchanged port _ _ s (Offers.by_offer password) e
   refused_unchanged (Call.OfferRenewal port number count seed new password) s e =
-      offer_unchanged port _ _ s (Offers.by-renewal number count seed new password) e
+      offer_unchanged port _ _ s (Offers.by_renewal number count seed new password) e
   refused_unchanged Call.Tick s e = let z : ◌≡◌ {A = ℕ} 0 1 = cc in absurd (omega arith)

@@ -52,18 +52,18 @@ pub waits_moved : (p i : ℕ) (c : Call) (w : Waiting) (most : ℕ) {w' : Waitin
     → is_front p (front_of w) ≡ false → Waits p w most → Waits p w' (most - tick_of c) × (tick_of c ≤ most)
 unfolding left some
 waits_moved p i c w most (Moved.stood z) q h n k =
-    let below = k.most-wait in (record { stands = k.stands; most_wait = omega arith }, omega arith)
+    let below = k.most_wait in (record { stands = k.stands; most_wait = omega arith }, omega arith)
 waits_moved p i c w most (Moved.gone z port spares) q h n k =
-    let below = k.most-wait in
+    let below = k.most_wait in
     let less = wait_others p port (spares p i q) w.ports w.turn k.stands in
     (record { stands = (still_others p port (spares p i q) w.ports k.stands).0; most_wait = omega arith }, omega arith)
 waits_moved p i c w most (Moved.come z port known absent b) q h n k =
-    let below = k.most-wait in
+    let below = k.most_wait in
     let less = wait_append p w.ports port w.turn k.stands in
     let stands = some_append (of_port p) w.ports (port ∷ []) ∙ ap (λ (t : Bool). t || some (of_port p) (port ∷ [])) k.stands in
     (record { stands = stands; most_wait = omega arith }, omega arith)
 waits_moved p i c w most (Moved.emptied z spares) q h n k = absurd (eqb-false i i (spares p i q) refl)
-waits_moved p i c w most (Moved.ticked z) q h n k = by w.ports w.turn h.turn n k.stands k.most-wait
+waits_moved p i c w most (Moved.ticked z) q h n k = by w.ports w.turn h.turn n k.stands k.most_wait
   where
     by : (l : List ℕ) (turn : ℕ) → TurnRight l turn → is_front p (first l) ≡ false → some (of_port p) l ≡ true → wait_of p l turn ≤ most
         → Waits p (ticked (record { ports = l; turn = turn })) (most - tick_of c) × (tick_of c ≤ most)

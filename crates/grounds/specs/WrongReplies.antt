@@ -133,6 +133,6 @@ module _ (why : Refusal) (wrong : is_in (listing_of why).0 (61 ∷ 62 ∷ []) �
       absurd (settled_other s _ (leave_checked port s)
       (checks_other (test (leb port 3) Refusal.PortUnknown ∷ test (waits port s) Refusal.PortNotInLine ∷ []) refl) e)
   wrong_reply (Call.Challenge port room) s e = absurd (challenge_other port room s e)
-  wrong_reply (Call.Offer port password) s e = wrong_at port _ _ s (Offers.by-offer password) e
-  wrong_reply (Call.OfferRenewal port number count seed new password) s e = wrong_at port _ _ s (Offers.by-renewal number count seed new password) e
+  wrong_reply (Call.Offer port password) s e = wrong_at port _ _ s (Offers.by_offer password) e
+  wrong_reply (Call.OfferRenewal port number count seed new password) s e = wrong_at port _ _ s (Offers.by_renewal number count seed new password) e
   wrong_reply Call.Tick s e = let z : ◌≡◌ {A = ℕ} 0 1 = cc in absurd (omega arith)

@@ -1,4 +1,5 @@
 // A password as sixteen hex digits, written and read. Document 01, 'Six words and hex'.
+#![tactic(auto)]
 ghost use Rattle.std.specs.Prelude.{◌≡◌};
 ghost use Rattle.text.specs.Put.{Writes};
 ghost use Rattle.text.specs.Scan.{unspaced};

@@ -1,4 +1,6 @@
 // The lines of waiting ports, one for each account, first come first served, and the turn of each line's front port.
+#![tactic(auto)]
+
 ghost use Rattle.std.specs.Prelude.{◌≡◌, [], ◌≤◌, ◌<◌, ltb, length};
 ghost use Rattle.line.specs.Line.{waiting, waiting_in, empty, front_of, into, left, ticked};
 ghost use Rattle.line.specs.Line as spec;
@@ -7,7 +9,7 @@ ghost use Rattle.line.specs.Inside as inside;
 
 // A port in line for the account in that room. `turn` is what is left of the port's turn where it is in front of the account's line, and says
 // nothing where it isn't.
-#[derive(Drop)]
+#[derive(Clone, Copy)]
 pub struct Place {
     pub port: u8,
     pub room: u8,
@@ -16,13 +18,13 @@ pub struct Place {
 
 // At most four ports wait in all, so four places hold every account's line. Those in use are the first `len`, in the order in which the ports
 // came; over four means four. A room number over 31 means its remainder by 32.
-#[derive(Drop)]
+#[derive(Clone, Copy)]
 pub struct Lines {
     pub places: [Place; 4],
     pub len: usize,
 }
 
-#[derive(Drop)]
+#[derive(Clone, Copy)]
 pub enum Front {
     Nobody,
     At(u8),
@@ -167,7 +169,7 @@ pub fn leave(lines: Lines, port: u8) -> Lines
 }
 
 // What else happens to the lines: an account's line is emptied, a tick passes.
-#[derive(Drop)]
+#[derive(Clone, Copy)]
 enum Change {
     Remove(usize),
     Tick,

@@ -1,4 +1,5 @@
 // MD5 (RFC 1321): the registers after a message, and the digest.
+#![tactic(auto)]
 
 // Which word of the block an operation takes and by how much it rotates, from its round and step.
 mod order_and_shift;

@@ -7,6 +7,7 @@
 //   s, S the one hash that an offer does; x nothing, so that the table is only copied
 // Prints what the last table has: ports in line, the turns of the first of them and of the fourth, port 0's wrong run, port 3's shut ticks; in place
 // of those after a renewal how long the seed is that the account remembers behind its present one. Of a reading or a hash it prints the last password.
+#![tactic(auto)]
 ghost use Rattle.std.specs.Prelude.{◌≤◌, ◌≡◌, length};
 
 use extended::reply_texts::{ReplyText, seed_part};
@@ -24,7 +25,7 @@ use text::counts::Counted;
 use text::put::copy;
 
 // What is offered: a password; for a renewal also new values, of which the seed stands in the text, and a new password.
-#[derive(Drop)]
+#[derive(Clone, Copy)]
 struct Offered {
     algorithm: u32,
     count: u16,

@@ -1,5 +1,6 @@
 // The functions that the panel firmware calls from C (include/lift.h): numbers and byte slices only.
 // Each is a thin cover of a proved function, with its answer laid out as a C struct.
+#![tactic(auto)]
 ghost use Rattle.block.specs.Digest.{digest_of};
 ghost use Rattle.cards.specs.Cards.{card_of, card_written};
 ghost use Rattle.challenge.specs.Challenges.{challenge_of, text_by_number, challenge_written};

@@ -10,7 +10,7 @@ use password::algorithm::number_of;
 use refusal::{Reading, Written, listing_of};
 
 #[repr(C)]
-#[derive(Drop)]
+#[derive(Clone, Copy)]
 pub struct LiftReading {
     pub password: u64,
     pub refusal: u32,
@@ -18,7 +18,7 @@ pub struct LiftReading {
 }
 
 #[repr(C)]
-#[derive(Drop)]
+#[derive(Clone, Copy)]
 pub struct LiftReply {
     pub password: u64,
     pub new_password: u64,
@@ -32,7 +32,7 @@ pub struct LiftReply {
 }
 
 #[repr(C)]
-#[derive(Drop)]
+#[derive(Clone, Copy)]
 pub struct LiftChallenge {
     pub seed_at: usize,
     pub seed_len: usize,
@@ -44,7 +44,7 @@ pub struct LiftChallenge {
 }
 
 #[repr(C)]
-#[derive(Drop)]
+#[derive(Clone, Copy)]
 pub struct LiftWritten {
     pub written: usize,
     pub refusal: u32,

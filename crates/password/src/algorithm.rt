@@ -2,14 +2,14 @@
 ghost use Rattle.std.specs.Prelude.{◌≡◌};
 ghost use Rattle.password.specs.Algorithm as spec;
 
-#[derive(Drop)]
+#[derive(Clone, Copy)]
 pub enum Algorithm {
     Md5,
     Sha1,
 }
 
 // The algorithm that a number or a name is, if it is one.
-#[derive(Drop)]
+#[derive(Clone, Copy)]
 pub enum Named {
     Is(Algorithm),
     Unknown,

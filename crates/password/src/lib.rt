@@ -1,4 +1,5 @@
 // What a pass-phrase, a seed, an algorithm and a password are. Document 01, 'From pass-phrase to password'; document 02, R-1.
+#![tactic(auto)]
 
 // What a pass-phrase and a seed may be, refusals 10 and 11, 23 and 24; and the seed in lower case.
 pub mod phrase_and_seed;

@@ -1,10 +1,11 @@
 // A port's own record: its run of wrong replies and its shut ticks.
+#![tactic(auto)]
 ghost use Rattle.std.specs.Prelude.{◌≡◌};
 ghost use Rattle.port.specs.Port.{wrongly, wrong_answer, rightly, cooled};
 
 use refusal::Refusal;
 
-#[derive(Drop)]
+#[derive(Clone, Copy)]
 pub struct Port {
     pub wrong: u8,
     pub shut: u16,

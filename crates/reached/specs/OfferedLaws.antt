@@ -39,11 +39,11 @@ renewal_offers port number count seed new password s = refl
 -- Of a call that offers it: its answer, and the table after it.
 pub call_offers : (port : ℕ) (what : Offered) (c : Call) (s : State) → Offers port what c
     → (answer c s ≡ replied_answer (offers port what s).answer) × (after c s ≡ (offers port what s).state)
-call_offers port what c s (Offers.by-offer password) = (
+call_offers port what c s (Offers.by_offer password) = (
   ap (λ (a : After Replied). replied_answer a.answer) (offer-offers port password s),
   ap (λ (a : After Replied). a.state) (offer-offers port password s),
 )
-call_offers port what c s (Offers.by-renewal number count seed new password) = (
+call_offers port what c s (Offers.by_renewal number count seed new password) = (
   ap (λ (a : After Replied). replied_answer a.answer) (renewal_offers port number count seed new password s),
   ap (λ (a : After Replied). a.state) (renewal_offers port number count seed new password s),
 )

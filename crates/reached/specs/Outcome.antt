@@ -201,7 +201,7 @@ compared_outcome c port password next s z g n o i a k x =
 lowered_good : (old : Room) (password : ℕ) → 1 < old.count → AccountGood old → AccountGood (lowered old password)
 lowered_good old password unused good = record {
   count_from = omega arith;
-  count_to = omega (arith, good.count-to);
+  count_to = omega (arith, good.count_to);
   few = good.few;
   seeds = good.seeds;
   different = good.different;

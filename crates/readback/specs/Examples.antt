@@ -51,7 +51,7 @@ examples = (
   ReplyText.Renewal 1 499 37 6 0x3712_dcb4_aa53_16c1 0x5bf0_75d9_959d_036f,
 ) ∷
     ("hex:85C4 3EE0 3857 765B", ReplyText.Login 0x85c4_3ee0_3857_765b) ∷
-    ("word:fowl kid  MASH Dead d_ual oaf", ReplyText.Login 0x85c4_3ee0_3857_765b) ∷
+    ("word:fowl kid  MASH Dead dUAL oaf", ReplyText.Login 0x85c4_3ee0_3857_765b) ∷
     -- the type decides how a part is read, and an empty part is there
     ("hex:FOWL KID MASH DEAD DUAL OAF", ReplyText.Refused Refusal.ReplyUnread) ∷
     ("word:85C4 3EE0 3857 765B", ReplyText.Refused Refusal.ReplyUnread) ∷

@@ -270,7 +270,7 @@ says_one kind text p number count seed new p' number' count' seed' new' s s' = b
         let starts : s.start ≡ s'.start = cc in
         let lengths : length seed ≡ length seed' = cc in
         let part = ap₂ (seed_part text) starts lengths in
-        (cc, λ _. (cc, cc, sym (s.seed-there e) ∙ part ∙ s'.seed-there e, cc))
+        (cc, λ _. (cc, cc, sym (s.seed_there e) ∙ part ∙ s'.seed_there e, cc))
     by false e f = (cc, λ g. absurd (true≢false (sym g)))
 
 pub written_alike : (kind : ReplyType) (p number count : ℕ) (seed : List ℕ) (new p' number' count' : ℕ) (seed' : List ℕ) (new' : ℕ)

@@ -19,8 +19,8 @@ use Rattle.readback.specs.ChallengeRead.{mark_by, mark_end_lem}
 mark_exactly : (text : List ℕ) (start : ℕ) → (has_mark text start ≡ true) ↔ MarkBehind text (end_of text start)
 mark_exactly text start = (
   there,
-  λ m. mark_by text start m.blanks m.from m.token m.behind m.blank-run m.token-run
-      ∙ ap₂ (λ (a b : Bool). a && b) m.is-mark m.ended,
+  λ m. mark_by text start m.blanks m.from m.token m.behind m.blank_run m.token_run
+      ∙ ap₂ (λ (a b : Bool). a && b) m.is_mark_lem m.ended,
 )
   where
     there : has_mark text start ≡ true → MarkBehind text (end_of text start)
@@ -58,10 +58,10 @@ module _ (algorithm : Algorithm) (n s l u : ℕ) (x : Bool) (text : List ℕ) (e
   pub used_marked : x ≡ true → (m : MarkBehind text (s + l)) → u ≡ s + l + length m.blanks + length m.token + 1
   unfolding used_by
   used_marked t m =
-      let there = subst (λ (k : ℕ). Run is_blank (drop k text) m.blanks m.from) (sym seed_end_lem) m.blank-run in
+      let there = subst (λ (k : ℕ). Run is_blank (drop k text) m.blanks m.from) (sym seed_end_lem) m.blank_run in
       sym used_is
       ∙ ap (λ (k : Bool). cond k (end_of text (mark_at text (seed_at text)) + 1) (end_of text (seed_at text) + 1)) (mark_is ∙ t)
-      ∙ omega (arith, mark_end_lem text (seed_at text) m.blanks m.from m.token m.behind there m.token-run, seed_end_lem)
+      ∙ omega (arith, mark_end_lem text (seed_at text) m.blanks m.from m.token m.behind there m.token_run, seed_end_lem)
 
   pub used_unmarked : x ≡ false → u ≡ s + l + 1
   unfolding used_by

@@ -44,29 +44,29 @@ module _ (part : List ℕ) (at : ℕ) (word behind white rest : List ℕ) (run :
 
 -- what it says: the algorithm by its name, the count, and the seed where it stands
 module _ (part name count seed : List ℕ) (s : Spaced part name count seed) where
-  name_place : drop (name_at part) part ≡ s.from-name
-  name_place = ap (λ (k : ℕ). drop k part) (sym (zero-add (run_of is_white part))) ∙ past_there is_white part 0 s.white s.from-name s.before
+  name_place : drop (name_at part) part ≡ s.from_name
+  name_place = ap (λ (k : ℕ). drop k part) (sym (zero-add (run_of is_white part))) ∙ past_there is_white part 0 s.white s.from_name s.before
 
-  name_there : Run is_solid (drop (name_at part) part) name s.past-name
-  name_there = subst (λ (l : List ℕ). Run is_solid l name s.past-name) (sym name_place) s.name-run
+  name_there : Run is_solid (drop (name_at part) part) name s.past_name
+  name_there = subst (λ (l : List ℕ). Run is_solid l name s.past_name) (sym name_place) s.name_run
 
-  count_place : drop (count_after part) part ≡ s.from-count
-  count_place = after_word part (name_at part) name s.past-name s.white₁ s.from-count name_there s.between
+  count_place : drop (count_after part) part ≡ s.from_count_lem
+  count_place = after_word part (name_at part) name s.past_name s.white₁ s.from_count_lem name_there s.between
 
-  count_there : Run is_solid (drop (count_after part) part) count s.past-count
-  count_there = subst (λ (l : List ℕ). Run is_solid l count s.past-count) (sym count_place) s.count-run
+  count_there : Run is_solid (drop (count_after part) part) count s.past_count
+  count_there = subst (λ (l : List ℕ). Run is_solid l count s.past_count) (sym count_place) s.count_run
 
   seed_place_lem : drop (seed_after part) part ≡ seed ++ s.white₃
-  seed_place_lem = after_word part (count_after part) count s.past-count s.white₂ s.from-seed count_there s.between₂ ∙ s.seed-laid
+  seed_place_lem = after_word part (count_after part) count s.past_count s.white₂ s.from_seed count_there s.between₂ ∙ s.seed_laid
 
   pub name_said : (parameters_of part).algorithm ≡ name_number (named name)
   unfolding parameters_of
   name_said =
-      ap (λ (w : List ℕ). name_number (named w)) (word_there part (name_at part) name s.past-name s.white₁ s.from-count name_there s.between)
+      ap (λ (w : List ℕ). name_number (named w)) (word_there part (name_at part) name s.past_name s.white₁ s.from_count_lem name_there s.between)
 
   pub count_said : (parameters_of part).count ≡ count_in count
   unfolding parameters_of
-  count_said = ap count_in (word_there part (count_after part) count s.past-count s.white₂ s.from-seed count_there s.between₂)
+  count_said = ap count_in (word_there part (count_after part) count s.past_count s.white₂ s.from_seed count_there s.between₂)
 
   -- behind the white space, the name, the count and the white space at either
   pub start_said : (parameters_of part).start ≡ length s.white + length name + length s.white₁ + length count + length s.white₂
@@ -79,21 +79,21 @@ module _ (part name count seed : List ℕ) (s : Spaced part name count seed) whe
         ap length seed_place_lem,
         length-append seed s.white₃,
         ap length s.before.laid,
-        length-append s.white s.from-name,
-        ap length s.name-run.laid,
-        length-append name s.past-name,
+        length-append s.white s.from_name,
+        ap length s.name_run.laid,
+        length-append name s.past_name,
         ap length s.between.laid,
-        length-append s.white₁ s.from-count,
-        ap length s.count-run.laid,
-        length-append count s.past-count,
+        length-append s.white₁ s.from_count_lem,
+        ap length s.count_run.laid,
+        length-append count s.past_count,
         ap length s.between₂.laid,
-        length-append s.white₂ s.from-seed,
-        ap length s.seed-laid,
+        length-append s.white₂ s.from_seed,
+        ap length s.seed_laid,
       )
 
   pub length_said : (parameters_of part).len ≡ length seed
   unfolding parameters_of
-  length_said = ap trimmed seed_place_lem ∙ trimmed_white seed s.white₃ s.behind ∙ all_count seed s.seed-ends
+  length_said = ap trimmed seed_place_lem ∙ trimmed_white seed s.white₃ s.behind ∙ all_count seed s.seed_ends
 
   pub seed_said : seed_part part (parameters_of part).start (length seed) ≡ seed
   unfolding parameters_of
@@ -193,12 +193,12 @@ no_word s rest white more z word gap =
 pub count_missing : (part name seed : List ℕ) → Spaced part name [] seed → seed ≡ []
 count_missing part name seed s =
     (no_bytes seed s.white₃
-    (sym s.seed-laid ∙ no_word s.from-count s.past-count s.white₂ s.from-seed s.between.over s.count-run s.between₂)).0
+    (sym s.seed_laid ∙ no_word s.from_count_lem s.past_count s.white₂ s.from_seed s.between.over s.count_run s.between₂)).0
 
 pub name_missing : (part count seed : List ℕ) → Spaced part [] count seed → count ≡ []
 name_missing part count seed s =
-    (no_bytes count s.past-count
-    (sym s.count-run.laid ∙ no_word s.from-name s.past-name s.white₁ s.from-count s.before.over s.name-run s.between)).0
+    (no_bytes count s.past_count
+    (sym s.count_run.laid ∙ no_word s.from_name s.past_name s.white₁ s.from_count_lem s.before.over s.name_run s.between)).0
 
 -- ---- every part is so
 

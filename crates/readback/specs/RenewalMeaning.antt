@@ -104,24 +104,24 @@ module _ (text : List ℕ) (number count : ℕ) (seed : List ℕ) (new present :
   so_made : RenewalParts text number count seed (OfPassword new) (OfPassword present) → SaysRenewal text number count seed new present
   so_made r =
       let v = r.parameters in
-      let start = seed_start (length (type_name r.kind) + length r.present-part + 2) (parameters_of v) in
+      let start = seed_start (length (type_name r.kind) + length r.present_part + 2) (parameters_of v) in
       let name-is = name_said v r.name r.word seed r.spaced in
       let word-is = count_said v r.name r.word seed r.spaced in
       let length-is = length_said v r.name r.word seed r.spaced in (
         start,
         (renewal_laid text number count start (length seed) new present).1 (
           r.kind,
-          r.present-part,
+          r.present_part,
           v,
-          r.new-part,
+          r.new_part,
           r.few,
           r.parts,
-          (name-is ∙ r.algorithm-is, word-is ∙ r.count-is, length-is, refl),
+          (name-is ∙ r.algorithm_is, word-is ∙ r.count_is, length-is, refl),
           r.new_is,
-          r.present-is,
+          r.present_is,
         ),
         ap (seed_part text start) (sym length-is)
-            ∙ renewal_seed r.kind text r.present-part v r.new-part r.parts
+            ∙ renewal_seed r.kind text r.present_part v r.new_part r.parts
             ∙ ap (seed_part v (parameters_of v).start) length-is
             ∙ seed_said v r.name r.word seed r.spaced,
       )

@@ -200,9 +200,9 @@ module _ (ts : List (List ℕ)) (e : six_words ts ≡ true) where
 
       back : Marked ws m → words_reading ws ≡ Reading.Refused (Refusal.WordUnknown m)
       back f =
-          let few : m < 2 ^ length found = rw six_found (omega (arith, f.of-six)) in
+          let few : m < 2 ^ length found = rw six_found (omega (arith, f.of_six)) in
           let same = marks_only found m (place_of []) few (λ i l. bit f i (omega (arith, six_found))) in
-          marked_answer (omega (arith, same, f.some-set)) ∙ ap (λ (n : ℕ). Reading.Refused (Refusal.WordUnknown n)) (sym same)
+          marked_answer (omega (arith, same, f.some_set)) ∙ ap (λ (n : ℕ). Reading.Refused (Refusal.WordUnknown n)) (sym same)
 
   pub marks_alike : (m n : ℕ) → Marked ws m → Marked ws n → m ≡ n
   marks_alike m n f g =

@@ -118,8 +118,8 @@ pub two_said : (kind : ReplyType) (text present : List ℕ) → TwoParts kind te
 unfolding typed_in
 two_said kind text present t few =
     typed_said kind text present t.laid few
-    (colons_there kind text present t.laid ∙ ap suc t.whole ∙ sym (ap (λ (k : Bool). cond k 3 1) t.logs-in))
-    ∙ ap (λ (k : Bool). cond k (renewal_in kind text) (Said.Login (password_by kind (part_at text (present_at text))))) t.logs-in
+    (colons_there kind text present t.laid ∙ ap suc t.whole ∙ sym (ap (λ (k : Bool). cond k 3 1) t.logs_in))
+    ∙ ap (λ (k : Bool). cond k (renewal_in kind text) (Said.Login (password_by kind (part_at text (present_at text))))) t.logs_in
     ∙ ap (λ (l : List ℕ). Said.Login (password_by kind l))
     (last_there text (present_at text) present (present_there kind text present t.laid) t.whole)
 
@@ -138,18 +138,18 @@ module _ (kind : ReplyType) (text present parameters new : List ℕ) (t : FourPa
   rest_there = present_there kind text _ t.laid
 
   present_read : part_at text (present_at text) ≡ present
-  present_read = part_there text (present_at text) present (parameters ++ 58 ∷ new) rest_there t.present-whole
+  present_read = part_there text (present_at text) present (parameters ++ 58 ∷ new) rest_there t.present_whole
 
   parameters_there : drop (parameters_at text) text ≡ parameters ++ 58 ∷ new
   unfolding parameters_at
-  parameters_there = after_there text (present_at text) present (parameters ++ 58 ∷ new) rest_there t.present-whole
+  parameters_there = after_there text (present_at text) present (parameters ++ 58 ∷ new) rest_there t.present_whole
 
   parameters_read : part_at text (parameters_at text) ≡ parameters
-  parameters_read = part_there text (parameters_at text) parameters new parameters_there t.parameters-whole
+  parameters_read = part_there text (parameters_at text) parameters new parameters_there t.parameters_whole
 
   new_read : part_at text (new_at text) ≡ new
   unfolding new_at
-  new_read = last_there text (new_at text) new (after_there text (parameters_at text) parameters new parameters_there t.parameters-whole) t.new-whole
+  new_read = last_there text (new_at text) new (after_there text (parameters_at text) parameters new parameters_there t.parameters_whole) t.new_whole
 
   parameters_at_lem : parameters_at text ≡ parameters_place
   unfolding parameters_at
@@ -158,7 +158,7 @@ module _ (kind : ReplyType) (text present parameters new : List ℕ) (t : FourPa
   three_colons : colons text ≡ colons_of kind
   three_colons =
       colons_there kind text _ t.laid
-      ∙ ap suc (colons_part present _ t.present-whole ∙ ap suc (colons_part parameters new t.parameters-whole ∙ ap suc t.new-whole))
+      ∙ ap suc (colons_part present _ t.present_whole ∙ ap suc (colons_part parameters new t.parameters_whole ∙ ap suc t.new_whole))
       ∙ sym (ap (λ (k : Bool). cond k 3 1) t.renews)
 
   pub four_said : length text ≤ 256 → said_in text ≡ renewal_by kind parameters_place present parameters new

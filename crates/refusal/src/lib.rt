@@ -1,9 +1,11 @@
 // The refusals of document 01, 'Refusal numbers', and of document 02, and the answers that several crates give over them.
+#![tactic(auto)]
+
 ghost use Rattle.std.specs.Prelude.{◌≡◌};
 ghost use Rattle.refusal.specs.Numbers.{listing_of};
 
 // What is wrong, in the order of the paper's table. The paper's number stands beside each.
-#[derive(Drop)]
+#[derive(Clone, Copy)]
 pub enum Refusal {
     PhraseShort, // 10
     PhraseLong, // 11
@@ -40,28 +42,28 @@ pub enum Refusal {
 }
 
 // Nothing wrong, or what is.
-#[derive(Drop)]
+#[derive(Clone, Copy)]
 pub enum Checked {
     Good,
     Refused(Refusal),
 }
 
 // A password as a number, first byte most significant, or why there is none.
-#[derive(Drop)]
+#[derive(Clone, Copy)]
 pub enum Reading {
     Password(u64),
     Refused(Refusal),
 }
 
 // How many bytes stand at the front of the lent buffer, or why none were written.
-#[derive(Drop)]
+#[derive(Clone, Copy)]
 pub enum Written {
     Wrote(usize),
     Refused(Refusal),
 }
 
 // A refusal as the papers list it: its number, then the marks that 31 carries (0 with every other).
-#[derive(Drop)]
+#[derive(Clone, Copy)]
 pub struct Listing(pub u32, pub u32);
 
 pub fn listing_of(refusal: Refusal) -> Listing

@@ -46,7 +46,7 @@ abbrev pub held : Bytes → List ℕ → List ℕ
 held (Bytes.Are n) b = take n b
 held Bytes.Bad b = []
 
--- "KIND is `hex`, `word`, `init_hex` or `init_word`, another is `bad`": by its number
+-- "KIND is `hex`, `word`, `init-hex` or `init-word`, another is `bad`": by its number
 abbrev pub of_type : Typed → Number
 of_type (Typed.Is kind) = Number.Is (type_number kind)
 of_type Typed.Unknown = Number.Bad

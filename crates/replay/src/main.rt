@@ -1,5 +1,6 @@
 // Answers replay lines: a call a line on standard input, an answer a line on standard output. All of the input is
 // read before the first call. An input of more than 1 MiB is answered by one line, `bad`, and none of its calls is run.
+#![tactic(auto)]
 ghost use Rattle.std.specs.Prelude.{◌<◌};
 
 use libc::STDIN_FILENO;

@@ -1,13 +1,13 @@
 // The words of a line: a name, and words of the kinds that the call of that name takes, with one space between.
 ghost use Rattle.std.specs.Prelude.{◌≡◌, ℕ, ◌+◌, ◌≤◌, ◌<◌, length, drop};
-ghost use Rattle.bytes.specs.Bytes.{index_of};
+ghost use Rattle.text.specs.Scan.{index_of};
 ghost use Rattle.replay.specs.ReplayWords.{of_number, of_bytes, word_in, text_at, number_at, held_to, Within};
 
 use crate::names::kind_of;
 use crate::word_values::{Bytes, Number, number_in, password_in, text_in, type_in};
 
 // What a call's word may be.
-#[derive(Drop)]
+#[derive(Clone, Copy)]
 pub enum Kind {
     Text,
     Password,
@@ -20,7 +20,7 @@ pub enum Kind {
 }
 
 // What a word says, if it is of its kind: a number, or the `len` bytes at its front.
-#[derive(Drop)]
+#[derive(Clone, Copy)]
 pub struct Word {
     pub good: bool,
     pub len: usize,
@@ -29,7 +29,7 @@ pub struct Word {
 
 // What the words after a name say, if they are of the call's kinds. Where word k is a text, its bytes stand in the line from
 // `starts[k]` up to `ends[k]`; any other says `numbers[k]`.
-#[derive(Drop)]
+#[derive(Clone, Copy)]
 pub struct Given {
     pub good: bool,
     pub starts: [usize; 7],

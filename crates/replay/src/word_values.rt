@@ -7,13 +7,13 @@ use extended::reply_writer::type_number;
 use text::kinds::lower;
 use text::scan::digit_value;
 
-#[derive(Drop)]
+#[derive(Clone, Copy)]
 pub enum Number {
     Is(u64),
     Bad,
 }
 
-#[derive(Drop)]
+#[derive(Clone, Copy)]
 pub enum Bytes {
     // How many.
     Are(usize),

@@ -28,7 +28,7 @@ examples =
     ("FOWL KID MASH DEAD DUAL O", Reading.Refused Refusal.PairSumWrong) ∷
     ("FOWL KID MASH DEAD DUAL OAK", Reading.Refused Refusal.PairSumWrong) ∷
     -- either case, and white space anywhere
-    (" fowl kid  MASH Dead d_ual oaf ", Reading.Password 0x85c4_3ee0_3857_765b) ∷
+    (" fowl kid  MASH Dead dUAL oaf ", Reading.Password 0x85c4_3ee0_3857_765b) ∷
     ("85c43EE03 857765b", Reading.Password 0x85c4_3ee0_3857_765b) ∷
     -- unknown words are marked, the second by 2 and the sixth by 32, also where the letters are hex digits; a digit makes no word
     ("FOWL KIDS MASH DEAD DUAL OAFS", Reading.Refused (Refusal.WordUnknown 34)) ∷

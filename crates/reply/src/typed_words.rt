@@ -7,14 +7,14 @@ use text::kinds::{Kind, is_letter, lower};
 use text::scan::run;
 
 // A token as a packed word, or that it is not of one to four letters.
-#[derive(Drop)]
+#[derive(Clone, Copy)]
 pub enum Word {
     Packed(u32),
     Other,
 }
 
 // Whether a text is six tokens of one to four letters, and those packed.
-#[derive(Drop)]
+#[derive(Clone, Copy)]
 pub struct Six {
     pub are: bool,
     pub words: [u32; 6],

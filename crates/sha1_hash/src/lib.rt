@@ -1,4 +1,5 @@
 // SHA-1 (FIPS 180-4): the hash value after a message, and the digest.
+#![tactic(auto)]
 
 // The message schedule, sixteen words at a time.
 mod schedule;

@@ -1,4 +1,5 @@
 // A password as six words: a 64-bit number as six places of the dictionary, and back; the words written. Document 01, 'Six words and hex'.
+#![tactic(auto)]
 ghost use Rattle.std.specs.Prelude.{◌≡◌};
 ghost use Rattle.sixwords.specs.Places.{pair_sum, places_of, number_of};
 
@@ -6,7 +7,7 @@ ghost use Rattle.sixwords.specs.Places.{pair_sum, places_of, number_of};
 pub mod spelling;
 
 // The number that six places stand for, or that the pair sum after it is wrong.
-#[derive(Drop)]
+#[derive(Clone, Copy)]
 pub enum Number {
     Is(u64),
     SumWrong,

@@ -1,6 +1,7 @@
 // The login table of one controller: accounts, ports and the lines of those that wait; and what its calls answer. Of an account's remembered seeds
 // the table has the present one. The older ones, which one call in many looks at, are 3,808 bytes that the controller keeps beside the table and lends
 // to the offer of a renewal: seven places of 17 bytes for each room (`accounts::older`). What they hold at the start doesn't matter.
+#![tactic(auto)]
 ghost use Rattle.std.specs.Prelude.{ℕ, ◌≡◌, List};
 ghost use Rattle.table.specs.Table as spec;
 
@@ -12,7 +13,7 @@ use refusal::{Checked, Refusal};
 // Where accounts stand in a table.
 pub mod held;
 
-#[derive(Drop)]
+#[derive(Clone, Copy)]
 pub struct Table {
     pub rooms: [Account; 32],
     pub ports: [Port; 4],
@@ -20,7 +21,7 @@ pub struct Table {
 }
 
 // The new count, or why there is none.
-#[derive(Drop)]
+#[derive(Clone, Copy)]
 pub enum Replied {
     Accepted(u16),
     Refused(Refusal),
@@ -28,13 +29,13 @@ pub enum Replied {
 
 // A table with the answer beside it. The table stands first, so that no gap of unused bytes lies before it: the compiler
 // then copies it once less.
-#[derive(Drop)]
+#[derive(Clone, Copy)]
 pub struct Settled {
     pub table: Table,
     pub answer: Checked,
 }
 
-#[derive(Drop)]
+#[derive(Clone, Copy)]
 pub struct Answered {
     pub table: Table,
     pub answer: Replied,

@@ -11,7 +11,7 @@ use crate::put::spell;
 use crate::scan::{digit_value, run};
 
 // A token's count, if it is one.
-#[derive(Drop)]
+#[derive(Clone, Copy)]
 pub enum Counted {
     Is(u32),
     Unread,

@@ -3,7 +3,7 @@ ghost use Rattle.std.specs.Prelude.{◌≡◌};
 ghost use Rattle.text.specs.Kinds.{is_letter, is_white, lower_of};
 
 // What a run of bytes is made of.
-#[derive(Drop)]
+#[derive(Clone, Copy)]
 pub enum Kind {
     White, // of a reply: space, tab, carriage return, newline
     Solid, // of a reply: all but those

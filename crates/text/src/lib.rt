@@ -1,4 +1,5 @@
 // Texts as bytes: read, and put at the front of a lent buffer.
+#![tactic(auto)]
 
 // The kinds of bytes that document 01 names, and a letter's lower case.
 pub mod kinds;

@@ -13,7 +13,7 @@ use table::Replied;
 
 // The part of a table that a call in a turn looks at: the room in whose line the port stands, the account in that room, the port's own record, and what
 // the turn's checks say. It is handed over in place of the table, which is copied less often so.
-#[derive(Drop)]
+#[derive(Clone, Copy)]
 pub struct TurnPart {
     pub place: usize,
     pub account: Account,
@@ -22,7 +22,7 @@ pub struct TurnPart {
 }
 
 // An answer, with what becomes of the account in that room and of the port's own record, and whether the port leaves its line.
-#[derive(Drop)]
+#[derive(Clone, Copy)]
 pub struct Outcome {
     pub place: usize,
     pub account: Account,

@@ -1,6 +1,7 @@
 // Prints the MD5 and SHA-1 rows of RFC 2289, Appendix C, and the row of its parity check, as our generator
 // and writers give them: algorithm, pass-phrase, seed, count, hex, six words, with tabs between. The file
 // `stdout` beside src/ has the RFC's rows.
+#![tactic(auto)]
 use libc::STDOUT_FILENO;
 use refusal::{Reading, Written};
 

@@ -5,7 +5,7 @@ use mathlib.Core.Path.{sym, ap}
 use native.Mathlib.Omega.{arith}
 use lib.ListN.{length, take}
 use lib.Seq.{length-take-le, take_all}
-use Rattle.bytes.specs.Bytes.{index_of}
+use Rattle.text.specs.Scan.{index_of}
 use Rattle.cards.proofs.printed.kept_line.Statement.{statement}
 use Rattle.cards.proofs.printed.kept_line.Tie as tie
 

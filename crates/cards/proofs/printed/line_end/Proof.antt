@@ -3,7 +3,7 @@ use borrow.Author.Rules.{rules}
 use mathlib.Core.Path.{◌∙◌, ap}
 use native.Mathlib.Nat.{zero-add}
 use lib.Seq.{take-length}
-use Rattle.bytes.specs.Bytes.{index_of, slice}
+use Rattle.text.specs.Scan.{index_of}
 use Rattle.cards.proofs.printed.line_end.Statement.{statement}
 use Rattle.cards.proofs.printed.line_end.Tie as tie
 

@@ -5,7 +5,7 @@ use mathlib.Core.Path.{sym, ◌∙◌, ap}
 use native.Mathlib.Omega.{arith}
 use lib.ListN.{length, drop, drop_of_length-le}
 use Rattle.text.specs.PutLaws.{rest_lent}
-use Rattle.bytes.specs.Bytes.{index_of}
+use Rattle.text.specs.Scan.{index_of}
 use Rattle.cards.proofs.printed.past_line.Statement.{statement}
 use Rattle.cards.proofs.printed.past_line.Tie as tie
 

@@ -4,7 +4,7 @@ use Prim.Native.Nat.{ℕ, ◌+◌}
 use mathlib.Core.List.{List}
 use lib.ListN.{drop}
 use lib.Seq.{take-length}
-use Rattle.bytes.specs.Bytes.{index_of, slice}
+use Rattle.text.specs.Scan.{index_of}
 use borrow.Author.Rules.{rules}
 use Rattle.replay.proofs.script_words.end_of.Statement.{statement}
 use Rattle.replay.proofs.script_words.end_of.Tie as tie
