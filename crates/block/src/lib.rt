@@ -6,7 +6,7 @@ ghost use Rattle.digests.specs.Padding.{blocks, length_byte, padded_byte, padded
 ghost use Rattle.digests.specs.declared.Order.{Order};
 ghost use Rattle.digests.specs.Words32 as spec;
 ghost use Rattle.block.specs.Inside.{message_bytes, block_bytes};
-ghost use Rattle.block.specs.WordLaws.{first_word, four_bytes_lem};
+ghost use Rattle.block.specs.WordLaws.{first_word, four_bytes};
 
 use digests::Order;
 

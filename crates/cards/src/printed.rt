@@ -13,7 +13,7 @@ use text::put::copy;
 fn line_end(s: &[u8]) -> usize
     ensures { (result ≡ index_of 10 s.now) × (result ≤ length s.now) }
 {
-    bytes::scan::find(s, 0, s.len(), b'\n')
+    find(s, 0, b'\n')
 }
 
 // The first line of a text without its newline.

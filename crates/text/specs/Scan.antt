@@ -1,5 +1,5 @@
 -- How far bytes of one kind go, a stretch of them, and the tokens of a reply.
-use Rattle.std.specs.Prelude.{ℕ, suc, eqb, Bool, cond, List, [], ◌∷◌, ◌++◌, take, drop}
+use Rattle.std.specs.Prelude.{ℕ, suc, eqb, Bool, cond, not, List, [], ◌∷◌, ◌++◌, take, drop}
 use Rattle.text.specs.Kinds.{is_white}
 
 -- how many bytes at the start of s, one after the other, pass the test
@@ -8,9 +8,8 @@ run_of test [] = 0
 run_of test (b ∷ s) = cond (test b) (suc (run_of test s)) 0
 
 -- how many bytes stand in front of the first byte b of s, or as many as s has where there is none
-unfoldable pub index_of : ℕ → List ℕ → ℕ
-index_of b [] = 0
-index_of b (c ∷ s) = cond (eqb c b) 0 (suc (index_of b s))
+abbrev pub index_of : ℕ → List ℕ → ℕ
+index_of b s = run_of (λ c. not (eqb c b)) s
 
 -- the bytes that pass the test, one after the other, from a place on
 abbrev pub stretch : (ℕ → Bool) → List ℕ → ℕ → List ℕ

@@ -1,6 +1,6 @@
 // A count as a text: one to four digits without a leading zero. Document 01, 'Challenges'.
 ghost use Rattle.std.specs.Prelude.{◌≡◌, true, [], ◌∷◌, ◌++◌, ◌+◌, ◌≤◌, length};
-ghost use Rattle.text.specs.Kinds.{is_digit_lem};
+ghost use Rattle.text.specs.Kinds.{is_digit};
 ghost use Rattle.text.specs.Tests.{every};
 ghost use Rattle.text.specs.Digits.{number_of};
 ghost use Rattle.text.specs.Put.{Put};

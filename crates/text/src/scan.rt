@@ -1,8 +1,8 @@
 // What is read from a text: how far bytes of one kind go, whether two texts are the same, and what a digit stands for.
 ghost use Rattle.std.specs.Prelude.{◌≡◌, ◌+◌, ◌≤◌, length, drop};
-ghost use Rattle.text.specs.Digits.{digit_value_lem};
+ghost use Rattle.text.specs.Digits.{digit_value};
 ghost use Rattle.text.specs.Kinds.{of_kind};
-ghost use Rattle.text.specs.Scan.{run_of, stretch};
+ghost use Rattle.text.specs.Scan.{run_of, stretch, index_of};
 ghost use Rattle.text.specs.Tests.{same as same_text};
 
 use crate::kinds::{Kind, is_letter, is_white, lower};
@@ -44,6 +44,21 @@ pub fn stretch_at(s: &[u8], at: usize, kind: Kind) -> &[u8]
 {
     let end = at + run(s, at, kind);
     &s[at..end]
+}
+
+// The place of the first byte `b` from `from` on; where there is none, the text's end, or `from` if that is past it.
+pub fn find(s: &[u8], from: usize, b: u8) -> usize
+    ensures place { result ≡ from + index_of b (drop from s.now) }
+    ensures within { from ≤ length s.now → result ≤ length s.now }
+{
+    let mut at = from;
+    while at < s.len() {
+        if s[at] == b {
+            return at;
+        }
+        at += 1;
+    }
+    at
 }
 
 // Whether two texts are the same.

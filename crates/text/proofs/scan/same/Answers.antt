@@ -1,14 +1,11 @@
 -- `same` meets its promise: the test says whether the two are equal.
-use borrow.Author.Rules.{rules}
 use Prim.Native.Nat.{ℕ}
 use mathlib.Core.Path.{◌≡◌, refl, sym, ◌∙◌, ap}
 use mathlib.Core.Bool.{Bool, true, false}
 use mathlib.Core.List.{List}
 use Rattle.text.specs.Tests.{same, same_self, same_equal}
-use Rattle.text.proofs.scan.same.Statement.{statement}
-use Rattle.text.proofs.scan.same.Tie as tie
+use Rattle.text.proofs.scan.same.Goals as goal
 
--- an answer that is true exactly if the texts are equal
 decides : (a b : List ℕ) (r : Bool) → (r ≡ true → a ≡ b) × (a ≡ b → r ≡ true) → r ≡ same a b
 decides a b true e = sym (ap (same a) (sym (e.0 refl)) ∙ same_self a)
 decides a b false e = by (same a b) refl
@@ -17,5 +14,5 @@ decides a b false e = by (same a b) refl
     by true f = e.1 (same_equal a b f) ∙ sym f
     by false f = sym f
 
-pub same_spec : {M : Type 1} → statement M
-same_spec = tie.close (tie.spec (λ c κs. search rules) (λ c. decides _ _ _ c.same.ensures))
+pub returns : goal.returns
+returns c = decides _ _ _ c.same.ensures
