@@ -8,6 +8,7 @@ use crate::write_card;
 use refusal::{Refusal, Written, listing_of};
 use text::counts::{Counted, put_count_and, read_count};
 use text::put::copy;
+use text::scan::find;
 
 // Where the first line of a text ends: at its newline, or with the text.
 fn line_end(s: &[u8]) -> usize

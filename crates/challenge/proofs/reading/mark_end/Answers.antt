@@ -1,0 +1,45 @@
+-- `mark_end` meets its promise: whether the token after the seed is the mark, and ended as a seed is.
+use Prim.Native.Nat.{ℕ, ◌+◌, ◌≤◌}
+use mathlib.Core.Path.{◌≡◌, sym, ◌∙◌, ap, ap₂}
+use mathlib.Core.Bool.{Bool, ◌&&◌}
+use mathlib.Core.List.{List}
+use native.Mathlib.Omega.{arith}
+use lib.ListN.{length, drop}
+use Rattle.challenge.specs.Challenges.{token_at, end_of, terminated, is_mark, mark_at, has_mark}
+use Rattle.challenge.specs.Inside.{mark_end}
+use Rattle.challenge.specs.Laws.{next_within, token_within}
+use Rattle.challenge.proofs.reading.mark_end.Goals as goal
+use Rattle.challenge.proofs.reading.mark_end.Goals.{After-is_terminated, After-next-mark, After-token-said}
+
+mark_within : (c : After-next-mark) → c.next-mark.result ≤ length (text c)
+mark_within c = omega (arith, c.next-mark.ensures, next_within (text c) (start c) c.requires)
+
+said : (c : After-token-said) → c.token-said.result.now ≡ token_at (text (from c)) (mark_at (text (from c)) (start (from c)))
+said c = c.token-said.ensures ∙ ap (token_at (text (from c))) c.next-mark.ensures
+
+ends : (c : After-token-said) → c.next-mark.result + length c.token-said.result.now ≡ end_of (text (from c)) (mark_at (text (from c)) (start (from c)))
+ends c = ap₂ (λ (k : ℕ) (t : List ℕ). k + length t) c.next-mark.ensures (said c)
+
+end_within : (c : After-token-said) → c.next-mark.result + length c.token-said.result.now ≤ length (text (from c))
+end_within c = omega (arith, ap length c.token-said.ensures, token_within (text (from c)) c.next-mark.result (mark_within c.before))
+
+flag : (c : After-is_terminated)
+    → (c.is_mark.result && c.is_terminated.result) ≡ has_mark (text (from c)) (start (from c))
+unfolding has_mark
+flag c =
+    ap₂ (λ (a b : Bool). a && b) (c.is_mark.ensures ∙ ap is_mark (said c.before))
+    (c.is_terminated.ensures ∙ ap (λ (k : ℕ). terminated (drop k (text (from c)))) (ends c.before))
+
+pub token-said-requires : goal.token-said-requires
+token-said-requires c = mark_within (goal.at.token-said-requires c).After-next-mark
+
+pub overflow_add-end : goal.overflow_add-end
+overflow_add-end c = omega (arith, end_within (goal.at.overflow_add-end c).After-token-said)
+
+pub returns-then-is_mark-is_terminated : goal.returns-then-is_mark-is_terminated
+unfolding mark_end
+returns-then-is_mark-is_terminated c = rw (sym (flag (goal.at.returns-then-is_mark-is_terminated c).After-is_terminated) ∙ c.if-is_mark-is_terminated.true) (ends (goal.at.returns-then-is_mark-is_terminated c).After-token-said)
+
+pub returns : goal.returns
+unfolding mark_end
+returns c = rw (sym (flag (goal.at.returns c).After-is_terminated) ∙ c.if-is_mark-is_terminated.false)
