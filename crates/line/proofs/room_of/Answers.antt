@@ -26,7 +26,7 @@ next : (c : After-struct_known-1) → let at = c.loop-i in
 next c =
     let at = c.loop-i in
     let a = c.args in
-    let places = four c.before in
+    let places = four c.before.before.before.before.before.before.before in
     ap₂ (λ (room found : ℕ). cond (eqb (place_at a.lines.places at.i).port a.port && ltb room found) room found)
     c.room_in-room.ensures.0 at.invariant.2
     ∙ sym (found_next a.port a.lines.places at.i (omega arith))

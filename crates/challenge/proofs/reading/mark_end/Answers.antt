@@ -11,24 +11,24 @@ use Rattle.challenge.specs.Laws.{next_within, token_within}
 use Rattle.challenge.proofs.reading.mark_end.Goals as goal
 use Rattle.challenge.proofs.reading.mark_end.Goals.{After-is_terminated, After-next-mark, After-token-said}
 
-mark_within : (c : After-next-mark) → c.next-mark.result ≤ length (text c)
-mark_within c = omega (arith, c.next-mark.ensures, next_within (text c) (start c) c.requires)
+mark_within : (c : After-next-mark) → c.next-mark.result ≤ length c.args.text.now
+mark_within c = omega (arith, c.next-mark.ensures, next_within c.args.text.now c.args.start c.requires)
 
-said : (c : After-token-said) → c.token-said.result.now ≡ token_at (text (from c)) (mark_at (text (from c)) (start (from c)))
-said c = c.token-said.ensures ∙ ap (token_at (text (from c))) c.next-mark.ensures
+said : (c : After-token-said) → c.token-said.result.now ≡ token_at c.args.text.now (mark_at c.args.text.now c.args.start)
+said c = c.token-said.ensures ∙ ap (token_at c.args.text.now) c.next-mark.ensures
 
-ends : (c : After-token-said) → c.next-mark.result + length c.token-said.result.now ≡ end_of (text (from c)) (mark_at (text (from c)) (start (from c)))
+ends : (c : After-token-said) → c.next-mark.result + length c.token-said.result.now ≡ end_of c.args.text.now (mark_at c.args.text.now c.args.start)
 ends c = ap₂ (λ (k : ℕ) (t : List ℕ). k + length t) c.next-mark.ensures (said c)
 
-end_within : (c : After-token-said) → c.next-mark.result + length c.token-said.result.now ≤ length (text (from c))
-end_within c = omega (arith, ap length c.token-said.ensures, token_within (text (from c)) c.next-mark.result (mark_within c.before))
+end_within : (c : After-token-said) → c.next-mark.result + length c.token-said.result.now ≤ length c.args.text.now
+end_within c = omega (arith, ap length c.token-said.ensures, token_within c.args.text.now c.next-mark.result (let mark_within : c.next-mark.result ≤ length c.args.text.now = omega (arith, c.next-mark.ensures, next_within c.args.text.now c.args.start c.requires) in mark_within))
 
 flag : (c : After-is_terminated)
-    → (c.is_mark.result && c.is_terminated.result) ≡ has_mark (text (from c)) (start (from c))
+    → (c.is_mark.result && c.is_terminated.result) ≡ has_mark c.args.text.now c.args.start
 unfolding has_mark
 flag c =
-    ap₂ (λ (a b : Bool). a && b) (c.is_mark.ensures ∙ ap is_mark (said c.before))
-    (c.is_terminated.ensures ∙ ap (λ (k : ℕ). terminated (drop k (text (from c)))) (ends c.before))
+    ap₂ (λ (a b : Bool). a && b) (c.is_mark.ensures ∙ ap is_mark (let said : c.token-said.result.now ≡ token_at c.args.text.now (mark_at c.args.text.now c.args.start) = c.token-said.ensures ∙ ap (token_at c.args.text.now) c.next-mark.ensures in said))
+    (c.is_terminated.ensures ∙ ap (λ (k : ℕ). terminated (drop k c.args.text.now)) (let ends : c.next-mark.result + length c.token-said.result.now ≡ end_of c.args.text.now (mark_at c.args.text.now c.args.start) = ap₂ (λ (k : ℕ) (t : List ℕ). k + length t) c.next-mark.ensures (let said : c.token-said.result.now ≡ token_at c.args.text.now (mark_at c.args.text.now c.args.start) = c.token-said.ensures ∙ ap (token_at c.args.text.now) c.next-mark.ensures in said) in ends))
 
 pub token-said-requires : goal.token-said-requires
 token-said-requires c = mark_within (goal.at.token-said-requires c).After-next-mark

@@ -18,7 +18,7 @@ unfolding challenge_written
 returns-in_default c =
     let a = c.args in
     let by : Algorithm → Written = λ algorithm. challenge_written_by false algorithm a.seed.now a.count (length a.buf.now) in
-    (unknown_refused Written.Refused by _ (sym c.numbered.ensures ∙ c.in_default.is), refl)
+    record { answered = unknown_refused Written.Refused by _ (sym c.numbered.ensures ∙ c.in_default.is); left = refl }
 
 pub returns : goal.returns
 unfolding challenge_written
@@ -27,4 +27,4 @@ returns c =
     let by : Algorithm → Written = λ algorithm. challenge_written_by false algorithm a.seed.now a.count (length a.buf.now) in
     let known = sym c.numbered.ensures ∙ c.in-Is.is in
     let left : Named → List ℕ = λ n. leaves c.write_by.result (challenge_text false (algorithm_in n) a.seed.now a.count) a.buf.now in
-    (c.write_by.ensures.answered ∙ known_done Written.Refused by _ _ known, c.write_by.ensures.left ∙ ap left (sym known))
+    record { answered = c.write_by.ensures.answered ∙ known_done Written.Refused by _ _ known; left = c.write_by.ensures.left ∙ ap left (sym known) }

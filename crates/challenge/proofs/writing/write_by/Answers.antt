@@ -52,10 +52,10 @@ small : (c : After-ending_length) → c.ending_length.result ≤ 5
 small c = rw c.ending_length.ensures (ending_few c.args.ext)
 
 pub returns-in-Refused : goal.returns-in-Refused
-returns-in-Refused c = (refused_seed _ _ _ _ _ _ (sym c.check_seed.ensures ∙ c.in-Refused.is), refl)
+returns-in-Refused c = record { answered = refused_seed _ _ _ _ _ _ (sym c.check_seed.ensures ∙ c.in-Refused.is); left = refl }
 
 pub returns-then-count-gt9999 : goal.returns-then-count-gt9999
-returns-then-count-gt9999 c = (refused_count _ _ _ _ _ (seed_good (goal.at.returns-then-count-gt9999 c).In_default) c.if-count-gt9999.true, refl)
+returns-then-count-gt9999 c = record { answered = refused_count _ _ _ _ _ (seed_good (goal.at.returns-then-count-gt9999 c).In_default) c.if-count-gt9999.true; left = refl }
 
 pub overflow_add-name_length-3 : goal.overflow_add-name_length-3
 overflow_add-name_length-3 c = omega (arith, small (goal.at.overflow_add-name_length-3 c).After-ending_length, width_small (goal.at.overflow_add-name_length-3 c).After-width, c.name_length.ensures.1)
@@ -65,18 +65,12 @@ overflow_add-name_length-4 c = omega (arith, small (goal.at.overflow_add-name_le
 
 pub returns-then-buf-name_length : goal.returns-then-buf-name_length
 returns-then-buf-name_length c =
-    let a = c.args in (
-      short a.ext a.algorithm a.seed.now a.count (length a.buf.now) (seed_good (goal.at.returns-then-buf-name_length c).In_default)
-          c.if-count-gt9999.false (omega (arith, c.name_length.ensures.0, c.width.ensures, c.ending_length.ensures, c.if-buf-name_length.true)),
-      refl,
-    )
+    let a = c.args in record { answered = short a.ext a.algorithm a.seed.now a.count (length a.buf.now) (seed_good (goal.at.returns-then-buf-name_length c).In_default)
+          c.if-count-gt9999.false (omega (arith, c.name_length.ensures.0, c.width.ensures, c.ending_length.ensures, c.if-buf-name_length.true)); left = refl }
 
 pub returns : goal.returns
 returns c =
-    let a = c.args in (
-      fits a.ext a.algorithm a.seed.now a.count (length a.buf.now) (seed_good (goal.at.returns c).In_default) _
+    let a = c.args in record { answered = fits a.ext a.algorithm a.seed.now a.count (length a.buf.now) (seed_good (goal.at.returns c).In_default) _
           c.if-count-gt9999.false
           (omega (arith, c.name_length.ensures.0, c.width.ensures, c.ending_length.ensures, c.if-buf-name_length.false))
-          c.put_challenge.ensures.0,
-      c.put_challenge.ensures.1,
-    )
+          c.put_challenge.ensures.0; left = c.put_challenge.ensures.1 }

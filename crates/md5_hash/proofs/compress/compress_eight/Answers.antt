@@ -22,7 +22,7 @@ registers_eight x y h g =
 
 pub compress-requires : goal.compress-requires
 unfolding round1 round2 round3 round4
-compress-requires c = ((refl, refl), (refl, refl))
+compress-requires c = record { t1_value = (refl, refl); t3_value = (refl, refl) }
 
 pub returns : goal.returns
 returns c =

@@ -16,7 +16,7 @@ loop-j-init c = (omega arith, c.initial-q.ensures)
 
 pub compress-q-requires : goal.compress-q-requires
 unfolding round1 round2 round3 round4
-compress-q-requires c = ((refl, refl), (refl, refl))
+compress-q-requires c = record { t1_value = (refl, refl); t3_value = (refl, refl) }
 
 pub loop-j-preserved : goal.loop-j-preserved
 unfolding absorbed

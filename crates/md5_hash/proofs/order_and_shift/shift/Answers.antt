@@ -1,7 +1,7 @@
 -- `shift` meets its promise: each case is the formula of its round.
 use Prim.Native.Nat.{ℕ, zero, suc, ◌+◌, ◌*◌, ◌%◌, ◌≤◌, ◌<◌}
 use native.Mathlib.Omega.{arith}
-use Rattle.md5_hash.specs.Formulas.{shift_printed_lem, last_round}
+use Rattle.md5_hash.specs.Formulas.{shift_printed_lem}
 use Rattle.md5_hash.proofs.order_and_shift.shift.Goals as goal
 
 product_small : (j : ℕ) → j < 4 → j * (j + 7) ≤ 30
@@ -25,7 +25,6 @@ returns-in-3 c = shift_printed_lem _ _ c.requires.0 c.requires.1.0 c.requires.1.
 
 pub returns-in_default : goal.returns-in_default
 returns-in_default c =
-    let rest = c.in_default.rest in
     let bounds = c.requires in
     shift_printed_lem c.args.round c.args.step bounds.0 bounds.1.0 bounds.1.1 4
-    (last_round c.args.round bounds.0 bounds.1.0 rest.0.0.1 rest.0.1 rest.1)
+    (omega arith)

@@ -6,7 +6,7 @@ pub returns : goal.returns
 returns c =
     let a = c.args in
     four_steps a.quarter a.w _ _ _ _ _
-    c.step_of_lem.ensures
+    c.step_of-v1.ensures
     c.step_of-v2.ensures
     c.step_of-v3.ensures
     c.step_of.ensures
