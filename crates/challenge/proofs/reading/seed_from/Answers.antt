@@ -43,7 +43,7 @@ pub read_by-requires : goal.read_by-requires
 read_by-requires c =
     let end = terminated_within c.args.text.now (end_of c.args.text.now c.args.start) (ended_well (goal.at.read_by-requires c).Else-not-is_terminated) in
     let mark = mark_end_within c.args.text.now c.args.start c.requires in
-    (omega (arith, ap length c.token-seed.ensures, end, (good (goal.at.read_by-requires c).After-is_terminated).0.1), omega (arith, c.mark_end.ensures, mark, (good (goal.at.read_by-requires c).After-is_terminated).0.1))
+    (omega (arith, ap length c.token-seed.ensures, end), omega (arith, c.mark_end.ensures, mark))
 
 pub returns : goal.returns
 returns c =
