@@ -3,6 +3,7 @@ use Prim.Native.Nat.{◌-◌}
 use mathlib.Core.Path.{◌≡◌, refl, ap, ◌∙◌}
 use mathlib.Core.List.{[]}
 use borrow.Author.Rules.{rules}
+use borrow.Author.Tests.{eq-eqb, ne_eqb}
 use native.Mathlib.Omega.{arith}
 use lib.ListN.{length, take}
 use Rattle.line.specs.Line.{waiting_in, line_for}
@@ -25,13 +26,13 @@ pub loop-i-preserved-then-gone : goal.loop-i-preserved-then-gone
 loop-i-preserved-then-gone c =
     let at = c.loop-i in
     made_gone (is_of c.args.port) same _ at.stay at.seen _ at.k at.i _ c.room_in-room.ensures.0 (four (goal.at.loop-i-preserved-then-gone c).Start)
-    c.loop-i-test.true at.invariant c.if-gone.true
+    c.loop-i-test.true at.invariant (eq-eqb _ _ c.if-gone.true)
 
 pub loop-i-preserved : goal.loop-i-preserved
 loop-i-preserved c =
     let at = c.loop-i in
     made_stays (is_of c.args.port) same _ at.stay at.seen _ at.k at.i _ c.room_in-room.ensures.0 (four (goal.at.loop-i-preserved c).Start)
-    c.loop-i-test.true at.invariant c.stays.result _ c.stays.ensures refl c.if-gone.false
+    c.loop-i-test.true at.invariant c.stays.result _ c.stays.ensures refl (ne_eqb _ _ c.if-gone.false)
 
 pub returns : goal.returns
 returns c =
