@@ -5,8 +5,8 @@ use lib.ListN.{get_or}
 use Rattle.digests.specs.Words32.{add}
 use Rattle.digests.specs.Rounds.{round1, round2, round3, round4}
 use Rattle.md5_hash.specs.Inside.{round_of}
-use Rattle.md5_hash.specs.Formulas.{last_round}
 use Rattle.md5_hash.specs.OperationLaws.{g_halves, word_and_constant, operation_whole, operation_halves}
+use Rattle.std.proofs.Common.{arith}
 use Rattle.md5_hash.proofs.operations.operation_of.Goals as goal
 use Rattle.md5_hash.proofs.operations.operation_of.Goals.{After-add-y}
 
@@ -48,9 +48,8 @@ pub returns-in_default : goal.returns-in_default
 unfolding round_of round4
 returns-in_default c =
     let a = c.args in
-    let rest = c.in_default.rest in
     let bounds = c.requires.round_nonzero in
-    let fourth = last_round a.round bounds.0 bounds.1.0 rest.0.0.1 rest.0.1 rest.1 in
+    let fourth : a.round ≡ 4 = omega arith in
     operation_whole (round_of a.round) a.w.now a.step _ _ a.q (summed (goal.at.returns-in_default c).After-add-y) c.shift-s.ensures.0 _ _
     (c.i.ensures ∙ sym (ap (λ n. (round_of n).function a.q.b a.q.c a.q.d) fourth))
     c.operation-in_default.ensures
