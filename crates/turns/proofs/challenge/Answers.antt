@@ -1,0 +1,30 @@
+-- `challenge` meets its promise: refused as the turn is, or what the writer answers and leaves.
+use Prim.Native.Nat.{◌-◌}
+use mathlib.Core.Path.{refl, sym, ap, ◌∙◌}
+use mathlib.Core.Bool.{true}
+use lib.ListN.{length}
+use Rattle.text.specs.Put.{leaves}
+use Rattle.challenge.specs.Challenges.{challenge_text, challenge_written_by}
+use Rattle.table.specs.Table.{view}
+use Rattle.table.specs.StepLaws.{challenge_refused, challenge_done}
+use Rattle.turns.specs.TurnPart.{Seen}
+use Rattle.turns.proofs.challenge.Goals as goal
+
+pub returns-in-Refused : goal.returns-in-Refused
+returns-in-Refused c =
+    record { answered = λ older.
+          sym (challenge_refused _ (view c.args.table older) _ _
+          (sym (ap (λ (t : Seen). t.checked) (c.turn_of-turn.ensures older)) ∙ c.in-Refused.is)); left = λ older. refl }
+
+pub returns : goal.returns
+returns c =
+    let a = c.args in
+    let b = a.buf.now in record { answered = λ older.
+          c.write_challenge.ensures.answered
+          ∙ ap (λ (t : Seen). challenge_written_by true t.account.algorithm t.account.seed (t.account.count - 1) (length b))
+          (c.turn_of-turn.ensures older)
+          ∙ sym (challenge_done _ (view a.table older) _
+          (sym (ap (λ (t : Seen). t.checked) (c.turn_of-turn.ensures older)) ∙ c.in_default.is)); left = λ older.
+          c.write_challenge.ensures.left
+          ∙ ap (λ (t : Seen). leaves c.write_challenge.result
+          (challenge_text true t.account.algorithm t.account.seed (t.account.count - 1)) b) (c.turn_of-turn.ensures older) }

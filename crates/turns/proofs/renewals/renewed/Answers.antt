@@ -1,0 +1,53 @@
+-- `renewed` meets its promise: refused as the turn is; or as the values are, or the password is compared, and the seed is kept.
+use Prim.Native.Nat.{ℕ}
+use mathlib.Core.Path.{◌≡◌, refl, sym, ap, ◌∙◌}
+use mathlib.Core.List.{List}
+use borrow.Author.Rules.{rules}
+use lib.ListN.{length}
+use Rattle.refusal.specs.Laws.{first_refused, first_good}
+use Rattle.accounts.specs.Rooms.{part_of}
+use Rattle.accounts.specs.OlderBytes.{remembering}
+use Rattle.table.specs.declared.Replied.{Replied}
+use Rattle.turns.specs.TurnPart.{Said, seen, outcome, older_after, refused}
+use Rattle.turns.specs.TurnPart as spec
+use Rattle.turns.specs.TurnPartLaws.{older_after_lem, renewed_place}
+use Rattle.turns.proofs.renewals.renewed.Goals as goal
+use Rattle.turns.proofs.renewals.renewed.Goals.{Start}
+
+sixteen : (c : Start) → length c.args.turn.account.seed ≡ 16
+sixteen c = search rules
+
+pub returns-in-Refused : goal.returns-in-Refused
+unfolding spec.renewed
+returns-in-Refused c =
+    let a = c.args in
+    let t = seen a.turn a.older.now in
+    let values = spec.renew_values a.algorithm a.count a.seed.now a.new a.password t in
+    let both = (
+      c.stays.ensures a.older.now ∙ first_refused (refused t) _ _ values c.in-Refused.is,
+      (λ why e. refl, λ room d. refl),
+    ) in
+    record { said = both.0; left = both.1; elsewhere = both.2 }
+
+pub returns : goal.returns
+unfolding spec.renewed
+returns c =
+    let a = c.args in
+    let older = a.older.now in
+    let t = seen a.turn older in
+    let made = c.renew_values-made.result in
+    let values = spec.renew_values a.algorithm a.count a.seed.now a.new a.password t in
+    let place : made.place ≡ a.turn.place =
+    ap (λ (o : Said). o.place) c.renew_values-made.ensures
+    ∙ renewed_place a.algorithm a.count a.seed.now a.new a.password t in
+    let both = (
+      ap (outcome made) c.keep_seed.ensures ∙ c.renew_values-made.ensures ∙ first_good (refused t) _ values c.in_default.is,
+      (
+        λ why e. c.keep_seed.ensures ∙ ap (λ (r : Replied). older_after r older (remembering a.turn.place a.turn.account older)) e,
+        λ room d.
+            ap (λ (l : List ℕ). part_of l room) c.keep_seed.ensures
+            ∙ older_after_lem made.answer a.turn.place a.turn.account older (c.pre.0 c.in_default.is) c.pre.1 (sixteen (goal.at.returns c).Start)
+            room (λ e. d (e ∙ sym place)),
+      ),
+    ) in
+    record { said = both.0; left = both.1; elsewhere = both.2 }
