@@ -8,51 +8,67 @@ use Rattle.md5_hash.specs.OperationLaws.{sixteen_performed}
 use Rattle.md5_hash.proofs.compress.compress.Goals as goal
 
 pub four_of-q1-requires : goal.four_of-q1-requires
+unfolding round_of
 four_of-q1-requires c = record { round_nonzero = search arith; t_value = c.requires.t1_value.0 }
 
 pub four_of-q2-requires : goal.four_of-q2-requires
+unfolding round_of
 four_of-q2-requires c = record { round_nonzero = search arith; t_value = c.requires.t1_value.0 }
 
 pub four_of-q3-requires : goal.four_of-q3-requires
+unfolding round_of
 four_of-q3-requires c = record { round_nonzero = search arith; t_value = c.requires.t1_value.0 }
 
 pub four_of-q4-requires : goal.four_of-q4-requires
+unfolding round_of
 four_of-q4-requires c = record { round_nonzero = search arith; t_value = c.requires.t1_value.0 }
 
 pub four_of-q5-requires : goal.four_of-q5-requires
+unfolding round_of
 four_of-q5-requires c = record { round_nonzero = search arith; t_value = c.requires.t1_value.1 }
 
 pub four_of-q6-requires : goal.four_of-q6-requires
+unfolding round_of
 four_of-q6-requires c = record { round_nonzero = search arith; t_value = c.requires.t1_value.1 }
 
 pub four_of-q7-requires : goal.four_of-q7-requires
+unfolding round_of
 four_of-q7-requires c = record { round_nonzero = search arith; t_value = c.requires.t1_value.1 }
 
 pub four_of-q8-requires : goal.four_of-q8-requires
+unfolding round_of
 four_of-q8-requires c = record { round_nonzero = search arith; t_value = c.requires.t1_value.1 }
 
 pub four_of-q9-requires : goal.four_of-q9-requires
+unfolding round_of
 four_of-q9-requires c = record { round_nonzero = search arith; t_value = c.requires.t3_value.0 }
 
 pub four_of-q10-requires : goal.four_of-q10-requires
+unfolding round_of
 four_of-q10-requires c = record { round_nonzero = search arith; t_value = c.requires.t3_value.0 }
 
 pub four_of-q11-requires : goal.four_of-q11-requires
+unfolding round_of
 four_of-q11-requires c = record { round_nonzero = search arith; t_value = c.requires.t3_value.0 }
 
 pub four_of-q12-requires : goal.four_of-q12-requires
+unfolding round_of
 four_of-q12-requires c = record { round_nonzero = search arith; t_value = c.requires.t3_value.0 }
 
 pub four_of-q13-requires : goal.four_of-q13-requires
+unfolding round_of
 four_of-q13-requires c = record { round_nonzero = search arith; t_value = c.requires.t3_value.1 }
 
 pub four_of-q14-requires : goal.four_of-q14-requires
+unfolding round_of
 four_of-q14-requires c = record { round_nonzero = search arith; t_value = c.requires.t3_value.1 }
 
 pub four_of-q15-requires : goal.four_of-q15-requires
+unfolding round_of
 four_of-q15-requires c = record { round_nonzero = search arith; t_value = c.requires.t3_value.1 }
 
 pub four_of-requires : goal.four_of-requires
+unfolding round_of
 four_of-requires c = record { round_nonzero = search arith; t_value = c.requires.t3_value.1 }
 
 pub returns : goal.returns

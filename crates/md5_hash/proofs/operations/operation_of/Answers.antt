@@ -1,5 +1,6 @@
 -- `operation_of` meets its promise: each case is an operation with the function of its round.
 use Prim.Native.Nat.{ℕ, ◌+◌}
+use Rattle.std.proofs.Common.{arith}
 use mathlib.Core.Path.{◌≡◌, ap, ap₂, sym, ◌∙◌}
 use lib.ListN.{get_or}
 use Rattle.digests.specs.Words32.{add}
@@ -48,9 +49,8 @@ pub returns-in_default : goal.returns-in_default
 unfolding round_of round4
 returns-in_default c =
     let a = c.args in
-    let rest = c.in_default.rest in
     let bounds = c.requires.round_nonzero in
-    let fourth = last_round a.round bounds.0 bounds.1.0 rest.0.0.1 rest.0.1 rest.1 in
+    let fourth = last_round a.round bounds.0 bounds.1.0 (omega arith) (omega arith) (omega arith) in
     operation_whole (round_of a.round) a.w.now a.step _ _ a.q (summed (goal.at.returns-in_default c).After-add-y) c.shift-s.ensures.0 _ _
     (c.i.ensures ∙ sym (ap (λ n. (round_of n).function a.q.b a.q.c a.q.d) fourth))
     c.operation-in_default.ensures

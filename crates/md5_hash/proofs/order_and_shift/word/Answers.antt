@@ -1,4 +1,5 @@
 -- `word` meets its promise: each case is the formula of its round.
+use Rattle.std.proofs.Common.{arith}
 use Rattle.md5_hash.specs.Formulas.{word_printed_lem}
 use Rattle.md5_hash.proofs.order_and_shift.word.Goals as goal
 
