@@ -1,4 +1,5 @@
 -- `step_of` meets its promise: each case is a step with the function and the constant of its quarter.
+use Rattle.std.proofs.Common.{arith}
 use mathlib.Core.Path.{ap}
 use Prim.Native.Nat.{ℕ}
 use Rattle.digests.specs.Sha1.{K}
@@ -31,7 +32,6 @@ pub returns-in_default : goal.returns-in_default
 unfolding K
 returns-in_default c =
     let a = c.args in
-    let rest = c.in_default.rest in
     of_quarter 3 a.quarter a.w _ a.v _
-    (last_quarter a.quarter a.w a.v rest.0.0.1 rest.0.1 rest.1)
+    (last_quarter a.quarter a.w a.v (λ e. omega arith) (λ e. omega arith) (λ e. omega arith))
     c.parity-in_default.ensures c.step-in_default.ensures
