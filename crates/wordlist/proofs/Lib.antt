@@ -1,5 +1,4 @@
 -- Lemmas of this crate's proofs.
 mod Ends
 mod Spans
-mod Arms
 mod RowLaws

@@ -1,5 +1,6 @@
 // The word list of RFC 2289, Appendix D, in code: the packed word at a place, and the place of a packed word.
 #![tactic(auto)]
+
 ghost use Rattle.std.specs.Prelude.{◌≡◌, ◌+◌, ◌*◌, ◌≤◌, ◌<◌};
 ghost use Rattle.dictionary.specs.Dictionary.{packed_at, found_of};
 ghost use Rattle.wordlist.specs.Inside.{row_of, Span};

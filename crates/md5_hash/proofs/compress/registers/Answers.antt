@@ -1,5 +1,4 @@
 -- `registers` meets its promise: the blocks before j are taken in.
-use Prim.Native.Nat.{◌-◌}
 use mathlib.Core.Path.{◌≡◌, refl, ap, ap₂, ◌∙◌}
 use native.Mathlib.Omega.{arith}
 use native.Mathlib.Numerals.{add-one}
@@ -20,11 +19,10 @@ compress-q-requires c = record { t1_value = (refl, refl); t3_value = (refl, refl
 
 pub loop-j-preserved : goal.loop-j-preserved
 unfolding absorbed
-loop-j-preserved c =
-    (
-      omega arith,
-      rw add-one (c.compress-q.ensures ∙ ap₂ compressed c.block-w.ensures c.loop-j.invariant.1),
-    )
+loop-j-preserved c = (
+  omega arith,
+  rw add-one (c.compress-q.ensures ∙ ap₂ compressed c.block-w.ensures c.loop-j.invariant.1),
+)
 
 pub returns : goal.returns
 unfolding registers

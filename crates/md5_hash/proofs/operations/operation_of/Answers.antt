@@ -1,5 +1,6 @@
 -- `operation_of` meets its promise: each case is an operation with the function of its round.
 use Prim.Native.Nat.{ℕ, ◌+◌}
+use Rattle.std.proofs.Common.{arith}
 use mathlib.Core.Path.{◌≡◌, ap, ap₂, sym, ◌∙◌}
 use lib.ListN.{get_or}
 use Rattle.digests.specs.Words32.{add}

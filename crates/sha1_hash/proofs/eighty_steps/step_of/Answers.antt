@@ -1,4 +1,5 @@
 -- `step_of` meets its promise: each case is a step with the function and the constant of its quarter.
+use Rattle.std.proofs.Common.{arith}
 use mathlib.Core.Path.{ap}
 use Prim.Native.Nat.{ℕ}
 use Rattle.digests.specs.Sha1.{K}

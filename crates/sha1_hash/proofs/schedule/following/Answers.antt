@@ -1,5 +1,4 @@
 -- `following` meets its promise: the array is a ring that holds sixteen words of the schedule.
-use Prim.Native.Nat.{◌-◌}
 use borrow.Author.Rules.{rules}
 use Rattle.sha1_hash.proofs.Scheduled.{ring_starts, ring_goes_on, ring_ends}
 use Rattle.sha1_hash.proofs.schedule.following.Goals as goal
