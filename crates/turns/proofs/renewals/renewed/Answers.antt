@@ -22,12 +22,7 @@ unfolding spec.renewed
 returns-in-Refused c =
     let a = c.args in
     let t = seen a.turn a.older.now in
-    let values = spec.renew_values a.algorithm a.count a.seed.now a.new a.password t in
-    let both = (
-      c.stays.ensures a.older.now ∙ first_refused (refused t) _ _ values c.in-Refused.is,
-      (λ why e. refl, λ room d. refl),
-    ) in
-    record { said = both.0; left = both.1; elsewhere = both.2 }
+    let values = spec.renew_values a.algorithm a.count a.seed.now a.new a.password t in record { said = c.stays.ensures a.older.now ∙ first_refused (refused t) _ _ values c.in-Refused.is; left = λ why e. refl; elsewhere = λ room d. refl }
 
 pub returns : goal.returns
 unfolding spec.renewed
@@ -39,15 +34,7 @@ returns c =
     let values = spec.renew_values a.algorithm a.count a.seed.now a.new a.password t in
     let place : made.place ≡ a.turn.place =
     ap (λ (o : Said). o.place) c.renew_values-made.ensures
-    ∙ renewed_place a.algorithm a.count a.seed.now a.new a.password t in
-    let both = (
-      ap (outcome made) c.keep_seed.ensures ∙ c.renew_values-made.ensures ∙ first_good (refused t) _ values c.in_default.is,
-      (
-        λ why e. c.keep_seed.ensures ∙ ap (λ (r : Replied). older_after r older (remembering a.turn.place a.turn.account older)) e,
-        λ room d.
+    ∙ renewed_place a.algorithm a.count a.seed.now a.new a.password t in record { said = ap (outcome made) c.keep_seed.ensures ∙ c.renew_values-made.ensures ∙ first_good (refused t) _ values c.in_default.is; left = λ why e. c.keep_seed.ensures ∙ ap (λ (r : Replied). older_after r older (remembering a.turn.place a.turn.account older)) e; elsewhere = λ room d.
             ap (λ (l : List ℕ). part_of l room) c.keep_seed.ensures
-            ∙ older_after_lem made.answer a.turn.place a.turn.account older (c.pre.0 c.in_default.is) c.pre.1 (sixteen (goal.at.returns c).Start)
-            room (λ e. d (e ∙ sym place)),
-      ),
-    ) in
-    record { said = both.0; left = both.1; elsewhere = both.2 }
+            ∙ older_after_lem made.answer a.turn.place a.turn.account older (c.requires.place_bound c.in_default.is) c.requires.older_len (sixteen (goal.at.returns c).Start)
+            room (λ e. d (e ∙ sym place)) }
