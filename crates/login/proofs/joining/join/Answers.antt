@@ -22,10 +22,9 @@ use Rattle.table.specs.HeldLaws.{account_there_lem}
 use Rattle.table.specs.Steps.{join_checked, joins}
 use Rattle.table.specs.StepLaws.{join-refused, join-done}
 use Rattle.login.specs.Inside.{join_checks, join_found}
-use Rattle.login.proofs.joining.join.Statement.{statement}
-use Rattle.login.proofs.joining.join.Tie as tie
+use Rattle.login.proofs.joining.join.Goals as goal
+use Rattle.login.proofs.joining.join.Goals.{After-check_join-answer, Start}
 
--- The table with the lines that a port joined, or that it didn't since four wait or since there is no such room.
 module _ (t : Table) (older : List ℕ) (all : length t.rooms ≡ 32) (lines : Lines) (port room : ℕ) where
   abbrev with_rooms : List Held → State
   with_rooms rooms = record { rooms = rooms; ports = t.ports }
@@ -51,47 +50,34 @@ module _ (t : Table) (older : List ℕ) (all : length t.rooms ≡ 32) (lines : L
       by_tests (ltb (length (waiting_in t.lines)) 4) (ltb room 32) refl e
       ∙ ap (λ (n : ℕ). cond (ltb n 4) back (view t older)) (sym (all_in_line t older all))
 
-all : (c : tie.Start) → length c.args.table.rooms ≡ 32
+all : (c : Start) → length c.args.table.rooms ≡ 32
 all c = search (rules, unmapped)
 
-abbrev from : tie.After-check-join → tie.Start
-from c = c.before.before.before
-
--- What was checked, of the account that was found.
-checked : (c : tie.After-check-join) (older : List ℕ)
-    → c.check-join.result ≡ join_checked (from c).args.port (from c).args.id (view (from c).args.table older)
+checked : (c : After-check_join-answer) (older : List ℕ)
+    → c.check_join-answer.result ≡ join_checked c.args.port c.args.id (view c.args.table older)
 unfolding join_checked
 checked c older =
-    let a = (from c).args in
+    let a = c.args in
     let s = view a.table older in
-    let account = c.before.account-at.ensures older ∙ ap (λ (n : ℕ). (room_at n s).account) (c.before.before.place_of.ensures older).0 in
-    c.check-join.ensures older (part_of older c.before.before.place_of.result)
+    let account = c.account_at.ensures older ∙ ap (λ (n : ℕ). (room_at n s).account) (c.place_of-place.ensures older).0 in
+    c.check_join-answer.ensures older (part_of older c.place_of-place.result)
     ∙ ap (λ (r : Room). in_order (join_found a.port r s)) account
     ∙ ap (λ (there : Bool). in_order (join_checks (leb a.port 3) there (not (waits a.port s)) (eqb (port_of a.port s).shut 0)
     (ltb 1 (account_of a.id s).count))) (account_there_lem a.id s.rooms)
 
-returns : tie.Need-returns
-returns c older =
-    let asked = c.before.before in
-    let s = view (from asked).args.table older in
-    ap (λ (k : Checked). record { answer = k; state = s }) c.enum_told.given.1
-    ∙ sym (join-refused _ _ s _ (sym (checked asked older) ∙ c.enum_told.given.1))
+pub returns-in-Refused : goal.returns-in-Refused
+returns-in-Refused c older =
+    let s = view c.args.table older in
+    ap (λ (k : Checked). record { answer = k; state = s }) c.in-Refused.is
+    ∙ sym (join-refused _ _ s _ (sym (checked (goal.at.returns-in-Refused c).After-check_join-answer older) ∙ c.in-Refused.is))
 
-returns-2 : tie.Need-returns-2
+pub returns : goal.returns
 unfolding joins
-returns-2 c older =
-    let told = c.before.before in
-    let asked = told.before.before in
-    let a = (from asked).args in
+returns c older =
+    let a = c.args in
     let s = view a.table older in
-    let place = asked.before.before.place_of in
-    let state = joined_in_lem a.table older (all (from asked)) c.join.result a.port place.result c.join.ensures
+    let place = c.place_of-place in
+    let state = joined_in_lem a.table older (all (goal.at.returns c).Start) c.join-lines.result a.port place.result c.join-lines.ensures
     ∙ ap (λ (n : ℕ). cond (ltb (length (in_lines s.rooms)) 4) (with_line n (joined a.port (room_at n s).line) s) s) (place.ensures older).0 in
-    (λ i. record { answer = told.enum-told2.given.1 i; state = state i })
-    ∙ sym (join-done _ _ s (sym (checked asked older) ∙ told.enum-told2.given.1))
-
-pub join_spec : {M : Type 1} → statement M
-join_spec =
-    tie.close
-    (tie.spec (λ c κs. search rules) (λ c κs. search rules) (λ c κs. search rules) (λ c. search rules) returns
-    (λ c. search rules) (λ c κs. search rules) returns-2)
+    (λ i. record { answer = c.in_default.is i; state = state i })
+    ∙ sym (join-done _ _ s (sym (checked (goal.at.returns c).After-check_join-answer older) ∙ c.in_default.is))

@@ -1,0 +1,67 @@
+-- `enrol` meets its promise: refused as checked, or the account stands in the first free room.
+use Prim.Native.Nat.{ℕ}
+use mathlib.Core.Path.{◌≡◌, sym, ap, ◌∙◌}
+use mathlib.Core.Bool.{not, ◌&&◌}
+use mathlib.Core.List.{List, [], ◌∷◌}
+use lib.Dec.{eqb, ltb}
+use Rattle.refusal.specs.declared.Checked.{Checked}
+use Rattle.refusal.specs.Checks.{unless, in_order}
+use Rattle.refusal.specs.Laws.{first_good, each_good, in_parts}
+use Rattle.password.specs.Algorithm.{numbered, algorithm_checked}
+use Rattle.password.specs.PhraseAndSeed.{seed_checked}
+use Rattle.accounts.specs.Rooms.{part_of, free}
+use Rattle.accounts.specs.Accounts.{Proposal, new_room, count_within, new_checked}
+use Rattle.table.specs.Table.{State, view, holds, with_account}
+use Rattle.table.specs.TableChecks.{id_given, id_new, room_left}
+use Rattle.table.specs.Steps.{enrol_checked}
+use Rattle.table.specs.StepLaws.{enrol-refused, enrol-done}
+use Rattle.login.specs.Inside.{enrol_checks, enrol_found}
+use Rattle.login.proofs.enrolling.enrol.Goals as goal
+use Rattle.login.proofs.enrolling.enrol.Goals.{After-check_enrol-answer}
+
+enrol_found_lem : (id number count : ℕ) (seed : List ℕ) (s : State) (place room : ℕ) → ltb place 32 ≡ holds id s.rooms → ltb room 32 ≡ holds 0 s.rooms
+    → in_order (enrol_found id (new_checked number count seed) place room) ≡ enrol_checked id number count seed s
+unfolding enrol_checked new_checked
+enrol_found_lem id number count seed s place room held left =
+    (λ i. in_order (enrol_checks (not (eqb id 0)) (new_checked number count seed) (not (not (eqb id 0) && held i)) (left i)))
+    ∙ ap (unless Checked.Refused (id_given id))
+    (in_parts (count_within count ∷ algorithm_checked (numbered number) ∷ seed_checked seed ∷ []) (id_new id s ∷ room_left s ∷ []))
+
+found : (c : After-check_enrol-answer) → c.check_enrol-answer.result
+    ≡ in_order (enrol_found c.args.id (new_checked c.args.algorithm c.args.count c.args.seed.now)
+    c.place_of-place.result c.place_of-room.result)
+found c =
+    c.check_enrol-answer.ensures
+    ∙ ap (λ (p : Proposal). in_order (enrol_found c.args.id p.checked c.place_of-place.result
+    c.place_of-room.result)) (c.enrolment-next.ensures [])
+
+checked : (c : After-check_enrol-answer) (older : List ℕ) → c.check_enrol-answer.result
+    ≡ enrol_checked c.args.id c.args.algorithm c.args.count c.args.seed.now (view c.args.table older)
+checked c older =
+    let a = c.args in
+    found c
+    ∙ enrol_found_lem a.id a.algorithm a.count a.seed.now (view a.table older)
+    c.place_of-place.result c.place_of-room.result
+    (c.place_of-place.ensures older).1 (c.place_of-room.ensures older).1
+
+pub returns-in-Refused : goal.returns-in-Refused
+returns-in-Refused c older =
+    let a = c.args in
+    let s = view a.table older in
+    ap (λ (k : Checked). record { answer = k; state = s }) c.in-Refused.is
+    ∙ sym (enrol-refused a.id a.algorithm a.count a.seed.now s a.password.now _ (sym (checked (goal.at.returns-in-Refused c).After-check_enrol-answer older) ∙ c.in-Refused.is))
+
+pub returns : goal.returns
+returns c older =
+    let a = c.args in
+    let s = view a.table older in
+    let new = new_room a.id a.algorithm a.count a.seed.now a.password.now in
+    let good = c.in_default.is in
+    let values = new_checked a.algorithm a.count a.seed.now in
+    let each = each_good (enrol_found a.id values c.place_of-place.result c.place_of-room.result)
+    (sym (found (goal.at.returns c).After-check_enrol-answer) ∙ good) in
+    let part = part_of older c.place_of-room.result in
+    let room : _ ≡ new = ap (λ (p : Proposal). p.room) (c.enrolment-next.ensures part) ∙ sym (first_good (λ _. free) values new each.1.0) in
+    let after = c.put.ensures older ∙ (λ i. with_account ((c.place_of-room.ensures older).0 i) (room i) s) in
+    (λ i. record { answer = good i; state = after i })
+    ∙ sym (enrol-done a.id a.algorithm a.count a.seed.now s a.password.now (sym (checked (goal.at.returns c).After-check_enrol-answer older) ∙ good))
