@@ -6,6 +6,7 @@ use Rattle.text.proofs.kinds.is_white.Reads as is_white
 use Rattle.text.proofs.kinds.lower.Reads as lower
 use Rattle.text.proofs.scan.run.Reads as run
 use Rattle.text.proofs.scan.stretch_at.Reads as stretch_at
+use Rattle.text.proofs.scan.find.Reads as find
 use Rattle.text.proofs.scan.same.Reads as same
 use Rattle.text.proofs.scan.digit_value.Reads as digit_value
 use Rattle.text.proofs.put.copy.Reads as copy
@@ -40,6 +41,9 @@ stretch_at_bytes_determined k a y z e f p q = p.1 ∙ sym q.1
 
 pub stretch_at_start_determined : AnswersSeen stretch_at.Learnt (λ k y. y.ref_ptr.1)
 stretch_at_start_determined k a y z e f p q = p.2 ∙ sym q.2
+
+pub find_determined : Answers find.Learnt
+find_determined k a y z e f p q = p.0 ∙ sym q.0
 
 pub same_determined : Answers same.Learnt
 same_determined k a y z e f p q = p ∙ sym q
