@@ -82,7 +82,7 @@ after_right_determined k a y z e f p q = p ∙ sym q
 pub after_tick_determined : Answers after_tick.Learnt
 after_tick_determined k a y z e f p q = p ∙ sym q
 
--- A port's record, lent: the promises of these three are proved by walks by hand.
+-- A port's record, lent: the promises of these three as the prover has them.
 pub lent_tick_determined : LentByHand lent_tick.ended (λ M 𝓤. lent_tick.clauses) (λ k e. e.0.now)
 lent_tick_determined M 𝓤 𝓛 mem run k a g y z e f = one_fact 𝓤 (cooled a.0.now) e.0.now f.0.now
 
