@@ -1,39 +1,39 @@
 -- The promises of `block`, `md5`, `sha1`, `password` and `generator` determine their results.
 use Rattle.std.proofs.Common.{sym, ◌∙◌}
 use Rattle.block.proofs.count.Reads as count
-use Rattle.block.proofs.from_high.Reads as from-high
+use Rattle.block.proofs.from_high.Reads as from_high
 use Rattle.block.proofs.block.Reads as block
 use Rattle.block.proofs.arithmetic.add.Reads as add
 use Rattle.block.proofs.arithmetic.rotated.Reads as rotated
 use Rattle.block.proofs.by_four.part.Reads as part
 use Rattle.block.proofs.as_bytes.word.Reads as put_word
-use Rattle.block.proofs.as_bytes.two_words.Reads as put-two-words
-use Rattle.md5_hash.proofs.compress.compress_eight.Reads as compress-eight
+use Rattle.block.proofs.as_bytes.two_words.Reads as put_two_words
+use Rattle.md5_hash.proofs.compress.compress_eight.Reads as compress_eight
 use Rattle.md5_hash.proofs.compress.registers.Reads as registers
 use Rattle.md5_hash.proofs.digest.digest.Reads as digest
-use Rattle.sha1_hash.proofs.compress.compress_eight.Reads as sha1-compress-eight
-use Rattle.sha1_hash.proofs.compress.hash_value.Reads as hash-value
-use Rattle.sha1_hash.proofs.digest.digest.Reads as sha1-digest
-use Rattle.password.proofs.phrase_and_seed.check_phrase.Reads as check-phrase
-use Rattle.password.proofs.phrase_and_seed.check_seed.Reads as check-seed
-use Rattle.password.proofs.phrase_and_seed.put_lower.Reads as put-lower
+use Rattle.sha1_hash.proofs.compress.compress_eight.Reads as sha1_compress_eight
+use Rattle.sha1_hash.proofs.compress.hash_value.Reads as hash_value
+use Rattle.sha1_hash.proofs.digest.digest.Reads as sha1_digest
+use Rattle.password.proofs.phrase_and_seed.check_phrase.Reads as check_phrase
+use Rattle.password.proofs.phrase_and_seed.check_seed.Reads as check_seed
+use Rattle.password.proofs.phrase_and_seed.put_lower.Reads as put_lower
 use Rattle.generator.proofs.chain.step.Reads as step
 use Rattle.generator.proofs.generate.Reads as generate
-use Rattle.generator.proofs.generate_by.Reads as generate-by
+use Rattle.generator.proofs.generate_by.Reads as generate_by
 use Rattle.password.proofs.algorithm.numbered.Reads as numbered
-use Rattle.password.proofs.algorithm.algorithm_in.Reads as algorithm-in
-use Rattle.password.proofs.algorithm.number_of.Reads as algorithm-number-of
+use Rattle.password.proofs.algorithm.algorithm_in.Reads as algorithm_in
+use Rattle.password.proofs.algorithm.number_of.Reads as algorithm_number_of
 use Rattle.password.proofs.algorithm_names.read_name.Reads as read_name
-use Rattle.password.proofs.algorithm_names.name_length.Reads as name-length
-use Rattle.password.proofs.algorithm_names.put_name.Reads as put-name
-use Rattle.password.proofs.eight_bytes.number_of.Reads as number_of_lem
+use Rattle.password.proofs.algorithm_names.name_length.Reads as name_length
+use Rattle.password.proofs.algorithm_names.put_name.Reads as put_name
+use Rattle.password.proofs.eight_bytes.number_of.Reads as number_of
 use Rattle.password.proofs.eight_bytes.bytes_of.Reads as bytes_of
 use Rattle.determined.specs.Determined.{Answers, AnswersAndLent, both, left}
 
 pub count_determined : Answers count.Learnt
 count_determined k a y z e f p q = p ∙ sym q
 
-pub from_high_determined : Answers from-high.Learnt
+pub from_high_determined : Answers from_high.Learnt
 from_high_determined k a y z e f p q = p ∙ sym q
 
 pub block_determined : Answers block.Learnt
@@ -51,10 +51,10 @@ part_determined k a y z e f p q = p ∙ sym q
 pub put_word_determined : AnswersAndLent put_word.Learnt (λ k e. e.1.0.now)
 put_word_determined k a y z e f p q = both p q
 
-pub put_two_words_determined : AnswersAndLent put-two-words.Learnt (λ k e. e.1.0.now)
+pub put_two_words_determined : AnswersAndLent put_two_words.Learnt (λ k e. e.1.0.now)
 put_two_words_determined k a y z e f p q = both p q
 
-pub compress_eight_determined : Answers compress-eight.Learnt
+pub compress_eight_determined : Answers compress_eight.Learnt
 compress_eight_determined k a y z e f p q = p ∙ sym q
 
 pub registers_determined : Answers registers.Learnt
@@ -63,22 +63,22 @@ registers_determined k a y z e f p q = p ∙ sym q
 pub digest_determined : AnswersAndLent digest.Learnt (λ k e. e.1.0.now)
 digest_determined k a y z e f p q = left _ _ p q
 
-pub sha1_compress_eight_determined : Answers sha1-compress-eight.Learnt
+pub sha1_compress_eight_determined : Answers sha1_compress_eight.Learnt
 sha1_compress_eight_determined k a y z e f p q = p ∙ sym q
 
-pub hash_value_determined : Answers hash-value.Learnt
+pub hash_value_determined : Answers hash_value.Learnt
 hash_value_determined k a y z e f p q = p ∙ sym q
 
-pub sha1_digest_determined : AnswersAndLent sha1-digest.Learnt (λ k e. e.1.0.now)
+pub sha1_digest_determined : AnswersAndLent sha1_digest.Learnt (λ k e. e.1.0.now)
 sha1_digest_determined k a y z e f p q = left _ _ p q
 
-pub check_phrase_determined : Answers check-phrase.Learnt
+pub check_phrase_determined : Answers check_phrase.Learnt
 check_phrase_determined k a y z e f p q = p ∙ sym q
 
-pub check_seed_determined : Answers check-seed.Learnt
+pub check_seed_determined : Answers check_seed.Learnt
 check_seed_determined k a y z e f p q = p ∙ sym q
 
-pub put_lower_determined : AnswersAndLent put-lower.Learnt (λ k e. e.0.now)
+pub put_lower_determined : AnswersAndLent put_lower.Learnt (λ k e. e.0.now)
 put_lower_determined k a y z e f p q = both p q
 
 pub step_determined : Answers step.Learnt
@@ -87,28 +87,28 @@ step_determined k a y z e f p q = p ∙ sym q
 pub generate_determined : Answers generate.Learnt
 generate_determined k a y z e f p q = p ∙ sym q
 
-pub generate_by_determined : Answers generate-by.Learnt
+pub generate_by_determined : Answers generate_by.Learnt
 generate_by_determined k a y z e f p q = p ∙ sym q
 
 pub numbered_determined : Answers numbered.Learnt
 numbered_determined k a y z e f p q = p ∙ sym q
 
-pub algorithm_in_determined : Answers algorithm-in.Learnt
+pub algorithm_in_determined : Answers algorithm_in.Learnt
 algorithm_in_determined k a y z e f p q = p ∙ sym q
 
-pub algorithm_number_of_determined : Answers algorithm-number-of.Learnt
+pub algorithm_number_of_determined : Answers algorithm_number_of.Learnt
 algorithm_number_of_determined k a y z e f p q = p ∙ sym q
 
 pub read_name_determined : Answers read_name.Learnt
 read_name_determined k a y z e f p q = p ∙ sym q
 
-pub name_length_determined : Answers name-length.Learnt
+pub name_length_determined : Answers name_length.Learnt
 name_length_determined k a y z e f p q = p.0 ∙ sym q.0
 
-pub put_name_determined : AnswersAndLent put-name.Learnt (λ k e. e.0.now)
+pub put_name_determined : AnswersAndLent put_name.Learnt (λ k e. e.0.now)
 put_name_determined k a y z e f p q = both p q
 
-pub number_of_determined : Answers number_of_lem.Learnt
+pub number_of_determined : Answers number_of.Learnt
 number_of_determined k a y z e f p q = p ∙ sym q
 
 pub bytes_of_determined : Answers bytes_of.Learnt

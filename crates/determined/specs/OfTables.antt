@@ -2,32 +2,32 @@
 -- bytes mean something.
 use Rattle.std.specs.Prelude.{ℕ, List, []}
 use Rattle.std.proofs.Common.{sym, ◌∙◌}
-use Rattle.line.proofs.fresh.Reads as line-fresh
-use Rattle.line.proofs.join.Reads as line-join
-use Rattle.line.proofs.leave.Reads as line-leave
-use Rattle.line.proofs.remove.Reads as line-remove
-use Rattle.line.proofs.tick.Reads as line-tick
+use Rattle.line.proofs.fresh.Reads as line_fresh
+use Rattle.line.proofs.join.Reads as line_join
+use Rattle.line.proofs.leave.Reads as line_leave
+use Rattle.line.proofs.remove.Reads as line_remove
+use Rattle.line.proofs.tick.Reads as line_tick
 use Rattle.line.proofs.room_of.Reads as room_reads
 use Rattle.line.proofs.has.Reads as has
 use Rattle.line.proofs.front_of.Reads as front_of
-use Rattle.port.specs.contracts.tick as lent-tick
-use Rattle.port.specs.contracts.right as lent-right
-use Rattle.port.specs.contracts.wrong as lent-wrong
-use Rattle.port.proofs.after_wrong.Reads as after-wrong
+use Rattle.port.specs.contracts.tick as lent_tick
+use Rattle.port.specs.contracts.right as lent_right
+use Rattle.port.specs.contracts.wrong as lent_wrong
+use Rattle.port.proofs.after_wrong.Reads as after_wrong
 use Rattle.port.proofs.wrong_answer.Reads as wrong_answer
-use Rattle.port.proofs.after_right.Reads as after-right
-use Rattle.port.proofs.after_tick.Reads as after-tick
+use Rattle.port.proofs.after_right.Reads as after_right
+use Rattle.port.proofs.after_tick.Reads as after_tick
 use Rattle.port.specs.Port.{cooled, rightly, wrongly}
 use Rattle.table.proofs.held.place_of.Reads as place_of
-use Rattle.table.proofs.held.account_at.Reads as account-at
+use Rattle.table.proofs.held.account_at.Reads as account_at
 use Rattle.table.proofs.held.put.Reads as put
 use Rattle.accounts.proofs.values.enrolment.Reads as enrolment
 use Rattle.accounts.proofs.values.renewal.Reads as renewal
-use Rattle.accounts.proofs.values.check_new.Reads as check-new
+use Rattle.accounts.proofs.values.check_new.Reads as check_new
 use Rattle.accounts.proofs.older.remember.Reads as remember
-use Rattle.accounts.proofs.lowered.write_challenge.Reads as write-challenge
+use Rattle.accounts.proofs.lowered.write_challenge.Reads as write_challenge
 use Rattle.accounts.proofs.lowered.lower.Reads as lower
-use Rattle.table.proofs.fresh.Reads as table-fresh
+use Rattle.table.proofs.fresh.Reads as table_fresh
 use Rattle.login.proofs.enrolling.enrol.Reads as enrol
 use Rattle.login.proofs.enrolling.remove.Reads as remove
 use Rattle.login.proofs.joining.join.Reads as join
@@ -35,7 +35,7 @@ use Rattle.login.proofs.leaving.leave.Reads as leave
 use Rattle.login.proofs.ticking.tick.Reads as tick
 use Rattle.turns.proofs.challenge.Reads as challenge
 use Rattle.turns.proofs.offer.Reads as offer
-use Rattle.turns.proofs.offer_renewal.Reads as offer-renewal
+use Rattle.turns.proofs.offer_renewal.Reads as offer_renewal
 use Rattle.line.specs.Line.{waiting}
 use Rattle.accounts.specs.Rooms.{part_of, room_of}
 use Rattle.accounts.specs.Accounts.{proposal}
@@ -45,19 +45,19 @@ use Rattle.table.specs.Steps.{settled, answered}
 use Rattle.determined.specs.Determined.{Answers, AsSeen, AnswersSeen, Lent, AnswersAndLent, LentByHand, left, one_fact}
 
 -- Lines are seen as the ports that wait for each room's account, front first, and the turn.
-pub line_fresh_determined : AnswersSeen line-fresh.Learnt (λ k y. waiting y)
+pub line_fresh_determined : AnswersSeen line_fresh.Learnt (λ k y. waiting y)
 line_fresh_determined k a y z e f p q = p ∙ sym q
 
-pub line_join_determined : AnswersSeen line-join.Learnt (λ k y. waiting y)
+pub line_join_determined : AnswersSeen line_join.Learnt (λ k y. waiting y)
 line_join_determined k a y z e f p q = p ∙ sym q
 
-pub line_leave_determined : AnswersSeen line-leave.Learnt (λ k y. waiting y)
+pub line_leave_determined : AnswersSeen line_leave.Learnt (λ k y. waiting y)
 line_leave_determined k a y z e f p q = p ∙ sym q
 
-pub line_remove_determined : AnswersSeen line-remove.Learnt (λ k y. waiting y)
+pub line_remove_determined : AnswersSeen line_remove.Learnt (λ k y. waiting y)
 line_remove_determined k a y z e f p q = p ∙ sym q
 
-pub line_tick_determined : AnswersSeen line-tick.Learnt (λ k y. waiting y)
+pub line_tick_determined : AnswersSeen line_tick.Learnt (λ k y. waiting y)
 line_tick_determined k a y z e f p q = p ∙ sym q
 
 pub room_of_determined : Answers room_reads.Learnt
@@ -70,26 +70,26 @@ pub front_of_determined : Answers front_of.Learnt
 front_of_determined k a y z e f p q = p ∙ sym q
 
 -- A port's record, given back.
-pub after_wrong_determined : Answers after-wrong.Learnt
+pub after_wrong_determined : Answers after_wrong.Learnt
 after_wrong_determined k a y z e f p q = p ∙ sym q
 
 pub wrong_answer_determined : Answers wrong_answer.Learnt
 wrong_answer_determined k a y z e f p q = p ∙ sym q
 
-pub after_right_determined : Answers after-right.Learnt
+pub after_right_determined : Answers after_right.Learnt
 after_right_determined k a y z e f p q = p ∙ sym q
 
-pub after_tick_determined : Answers after-tick.Learnt
+pub after_tick_determined : Answers after_tick.Learnt
 after_tick_determined k a y z e f p q = p ∙ sym q
 
--- A port's record, lent: the promises of these three are proved by walks by hand.
-pub lent_tick_determined : LentByHand lent-tick.ended (λ M 𝓤. lent-tick.clauses 𝓤) (λ k e. e.0.now)
+-- A port's record, lent: the promises of these three as the prover has them.
+pub lent_tick_determined : LentByHand lent_tick.ended (λ M 𝓤. lent_tick.clauses) (λ k e. e.0.now)
 lent_tick_determined M 𝓤 𝓛 mem run k a g y z e f = one_fact 𝓤 (cooled a.0.now) e.0.now f.0.now
 
-pub lent_right_determined : LentByHand lent-right.ended (λ M 𝓤. lent-right.clauses 𝓤) (λ k e. e.0.now)
+pub lent_right_determined : LentByHand lent_right.ended (λ M 𝓤. lent_right.clauses) (λ k e. e.0.now)
 lent_right_determined M 𝓤 𝓛 mem run k a g y z e f = one_fact 𝓤 (rightly a.0.now) e.0.now f.0.now
 
-pub lent_wrong_determined : LentByHand lent-wrong.ended (λ M 𝓤. lent-wrong.clauses 𝓤) (λ k e. e.0.now)
+pub lent_wrong_determined : LentByHand lent_wrong.ended (λ M 𝓤. lent_wrong.clauses) (λ k e. e.0.now)
 lent_wrong_determined M 𝓤 𝓛 mem run k a g y z e f = one_fact 𝓤 (wrongly a.0.now) e.0.now f.0.now
 
 -- The older seeds stand apart: the promises of functions that are not lent them speak of any bytes for them.
@@ -97,13 +97,13 @@ pub place_of_determined : Answers place_of.Learnt
 place_of_determined k a y z e f p q = (p []).0 ∙ sym (q []).0
 
 -- An account is seen as what it means, without the zeros after its seed.
-pub account_at_determined : (older : List ℕ) → AsSeen account-at.Learnt (λ k a y e. room_of y (part_of older a.1.0))
+pub account_at_determined : (older : List ℕ) → AsSeen account_at.Learnt (λ k a y e. room_of y (part_of older a.1.0))
 account_at_determined older k a y z e f p q = p older ∙ sym (q older)
 
 pub put_determined : (older : List ℕ) → AnswersSeen put.Learnt (λ k y. view y older)
 put_determined older k a y z e f p q = p older ∙ sym (q older)
 
-pub check_new_determined : Answers check-new.Learnt
+pub check_new_determined : Answers check_new.Learnt
 check_new_determined k a y z e f p q = p ∙ sym q
 
 pub enrolment_determined : (part : List ℕ) → AnswersSeen enrolment.Learnt (λ k y. proposal y part)
@@ -115,14 +115,14 @@ renewal_determined k a y z e f p q = p ∙ sym q
 pub remember_determined : Lent remember.Learnt (λ k e. e.0.now)
 remember_determined k a y z e f p q = p ∙ sym q
 
-pub write_challenge_determined : AnswersAndLent write-challenge.Learnt (λ k e. e.1.0.now)
+pub write_challenge_determined : AnswersAndLent write_challenge.Learnt (λ k e. e.1.0.now)
 write_challenge_determined k a y z e f p q = left _ _ p q
 
 pub lower_determined : (part : List ℕ) → AnswersSeen lower.Learnt (λ k y. room_of y part)
 lower_determined part k a y z e f p q = p part ∙ sym (q part)
 
 -- A table is seen by its view, beside the answer, and with the older seeds: those that the offer of a renewal leaves, any beside the others.
-pub table_fresh_determined : (older : List ℕ) → AnswersSeen table-fresh.Learnt (λ k y. view y older)
+pub table_fresh_determined : (older : List ℕ) → AnswersSeen table_fresh.Learnt (λ k y. view y older)
 table_fresh_determined older k a y z e f p q = p older ∙ sym (q older)
 
 pub enrol_determined : (older : List ℕ) → AnswersSeen enrol.Learnt (λ k y. settled y older)
@@ -146,5 +146,5 @@ challenge_determined k a y z e f p q = left _ _ (p.0 [], p.1 []) (q.0 [], q.1 []
 pub offer_determined : (older : List ℕ) → AnswersSeen offer.Learnt (λ k y. answered y older)
 offer_determined older k a y z e f p q = p older ∙ sym (q older)
 
-pub offer_renewal_determined : AsSeen offer-renewal.Learnt (λ k a y e. answered y e.1.0.now)
+pub offer_renewal_determined : AsSeen offer_renewal.Learnt (λ k a y e. answered y e.1.0.now)
 offer_renewal_determined k a y z e f p q = p.0 ∙ sym q.0

@@ -2,6 +2,7 @@
 // value and put what comes back in its place, as often as they are told, so that nothing of it can be left out. For the benchmark alone: no crate stands
 // on this one, and its functions promise nothing. They are proved to be safe, and to end.
 #![tactic(auto)]
+
 use accounts::Account;
 use line::{Lines, Place};
 use password::algorithm::algorithm_in;

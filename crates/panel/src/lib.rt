@@ -1,6 +1,7 @@
-// The functions that the panel firmware calls from C (include/lift.h): numbers and byte slices only.
+// The functions that the panel firmware calls from C (include/lift.h), for crates: numbers and byte slices only. `panel_c` exports them.
 // Each is a thin cover of a proved function, with its answer laid out as a C struct.
 #![tactic(auto)]
+
 ghost use Rattle.block.specs.Digest.{digest_of};
 ghost use Rattle.cards.specs.Cards.{card_of, card_written};
 ghost use Rattle.challenge.specs.Challenges.{challenge_of, text_by_number, challenge_written};
@@ -16,39 +17,29 @@ ghost use Rattle.sixwords.specs.Spelling.{words_of};
 ghost use Rattle.text.specs.Put.{written_of};
 ghost use Rattle.std.specs.Prelude.{length, ◌≡◌};
 
-use crate::structs::{
-    LiftChallenge, LiftReading, LiftReply, LiftWritten, challenge_row, reading_row, reply_row,
-    written_row,
-};
+use crate::structs::{challenge_row, reading_row, reply_row, written_row};
+pub use crate::structs::{LiftChallenge, LiftReading, LiftReply, LiftWritten};
 
 // Answers as C sees them.
 mod structs;
 
 // MD5, SHA-1 and the generator.
 
-#[unsafe(no_mangle)]
-pub extern "C" fn lift_md5(text: &[u8], digest: &mut [u8]) -> LiftWritten
+pub fn lift_md5(text: &[u8], digest: &mut [u8]) -> LiftWritten
     ensures { Reported (digest_of md5 text.now (length digest.old))
         (md5 text.now) digest.old digest.new result }
 {
     written_row(md5_hash::digest::digest(text, digest))
 }
 
-#[unsafe(no_mangle)]
-pub extern "C" fn lift_sha1(text: &[u8], digest: &mut [u8]) -> LiftWritten
+pub fn lift_sha1(text: &[u8], digest: &mut [u8]) -> LiftWritten
     ensures { Reported (digest_of sha1 text.now (length digest.old))
         (sha1 text.now) digest.old digest.new result }
 {
     written_row(sha1_hash::digest::digest(text, digest))
 }
 
-#[unsafe(no_mangle)]
-pub extern "C" fn lift_password(
-    algorithm: u32,
-    phrase: &[u8],
-    seed: &[u8],
-    count: u32,
-) -> LiftReading
+pub fn lift_password(algorithm: u32, phrase: &[u8], seed: &[u8], count: u32) -> LiftReading
     ensures { result ≡ reading_row (generated algorithm phrase.now seed.now count) }
 {
     reading_row(generator::generate(algorithm, phrase, seed, count))
@@ -56,37 +47,32 @@ pub extern "C" fn lift_password(
 
 // Replies: reading a plain one, or one of either kind; writing one as hex, as words or as an extended reply; and a password's eight bytes.
 
-#[unsafe(no_mangle)]
-pub extern "C" fn lift_read_plain(text: &[u8]) -> LiftReading
+pub fn lift_read_plain(text: &[u8]) -> LiftReading
     ensures { result ≡ reading_row (reading_of text.now) }
 {
     reading_row(reply::read(text))
 }
 
-#[unsafe(no_mangle)]
-pub extern "C" fn lift_read_reply(text: &[u8]) -> LiftReply
+pub fn lift_read_reply(text: &[u8]) -> LiftReply
     ensures { result ≡ reply_row (reply_text_of text.now) }
 {
     reply_row(extended::reply_texts::read(text))
 }
 
-#[unsafe(no_mangle)]
-pub extern "C" fn lift_write_hex(password: u64, buf: &mut [u8]) -> LiftWritten
+pub fn lift_write_hex(password: u64, buf: &mut [u8]) -> LiftWritten
     ensures { Reported (written_of (length buf.old) (hex_of password)) (hex_of password) buf.old buf.new result }
 {
     written_row(hex_text::write_hex(password, buf))
 }
 
-#[unsafe(no_mangle)]
-pub extern "C" fn lift_write_words(password: u64, buf: &mut [u8]) -> LiftWritten
+pub fn lift_write_words(password: u64, buf: &mut [u8]) -> LiftWritten
     ensures { Reported (written_of (length buf.old) (words_of password)) (words_of password) buf.old buf.new result }
 {
     written_row(sixwords::spelling::write_words(password, buf))
 }
 
 // By the type's number: 1 hex, 2 word, 3 init-hex, 4 init-word. With the first two what belongs to a renewal isn't looked at.
-#[unsafe(no_mangle)]
-pub extern "C" fn lift_write_extended(
+pub fn lift_write_extended(
     kind: u32,
     password: u64,
     algorithm: u32,
@@ -109,15 +95,13 @@ pub extern "C" fn lift_write_extended(
     ))
 }
 
-#[unsafe(no_mangle)]
-pub extern "C" fn lift_password_of(bytes: &[u8; 8]) -> u64
+pub fn lift_password_of(bytes: &[u8; 8]) -> u64
     ensures { result ≡ number_of bytes.now }
 {
     password::eight_bytes::number_of(*bytes)
 }
 
-#[unsafe(no_mangle)]
-pub extern "C" fn lift_bytes_of(password: u64, bytes: &mut [u8; 8])
+pub fn lift_bytes_of(password: u64, bytes: &mut [u8; 8])
     ensures { bytes.new ≡ bytes_of password }
 {
     *bytes = password::eight_bytes::bytes_of(password);
@@ -125,20 +109,13 @@ pub extern "C" fn lift_bytes_of(password: u64, bytes: &mut [u8; 8])
 
 // Challenges: reading one, and writing one.
 
-#[unsafe(no_mangle)]
-pub extern "C" fn lift_read_challenge(text: &[u8]) -> LiftChallenge
+pub fn lift_read_challenge(text: &[u8]) -> LiftChallenge
     ensures { result ≡ challenge_row (challenge_of text.now) }
 {
     challenge_row(challenge::reading::read(text))
 }
 
-#[unsafe(no_mangle)]
-pub extern "C" fn lift_write_challenge(
-    algorithm: u32,
-    seed: &[u8],
-    count: u32,
-    buf: &mut [u8],
-) -> LiftWritten
+pub fn lift_write_challenge(algorithm: u32, seed: &[u8], count: u32, buf: &mut [u8]) -> LiftWritten
     ensures { Reported (challenge_written algorithm seed.now count (length buf.old))
         (text_by_number algorithm seed.now count) buf.old buf.new result }
 {
@@ -147,13 +124,7 @@ pub extern "C" fn lift_write_challenge(
 
 // The card.
 
-#[unsafe(no_mangle)]
-pub extern "C" fn lift_write_card(
-    phrase: &[u8],
-    challenge: &[u8],
-    lines: u32,
-    buf: &mut [u8],
-) -> LiftWritten
+pub fn lift_write_card(phrase: &[u8], challenge: &[u8], lines: u32, buf: &mut [u8]) -> LiftWritten
     ensures { Reported (card_written phrase.now challenge.now lines (length buf.old))
         (card_of phrase.now challenge.now lines) buf.old buf.new result }
 {
