@@ -1,5 +1,6 @@
 // The password of a pass-phrase, a seed and a count.
 #![tactic(auto)]
+
 ghost use Rattle.std.specs.Prelude.{◌≡◌, ◌++◌, map, ◌+◌, ◌≤◌, length};
 ghost use Rattle.text.specs.Kinds.{lower_of};
 ghost use Rattle.text.specs.Put.{Put};

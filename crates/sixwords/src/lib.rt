@@ -1,5 +1,6 @@
 // A password as six words: a 64-bit number as six places of the dictionary, and back; the words written. Document 01, 'Six words and hex'.
 #![tactic(auto)]
+
 ghost use Rattle.std.specs.Prelude.{◌≡◌};
 ghost use Rattle.sixwords.specs.Places.{pair_sum, places_of, number_of};
 

@@ -1,10 +1,10 @@
 -- `first` meets its promise: what the buffer holds at its front is hashed.
 use Prim.Native.Nat.{ℕ, ◌≤◌}
-use mathlib.Core.Path.{refl, sym, ap, ap₂, ◌∙◌}
+use mathlib.Core.Path.{refl, ap, ap₂, ◌∙◌}
 use mathlib.Core.List.{List, ◌++◌, map}
 use native.Mathlib.Omega.{arith}
-use lib.ListN.{length, take, length-append, length-map, length-take}
-use lib.Seq.{take_at, length-take-le}
+use lib.ListN.{length, take, length-append, length-map}
+use lib.Seq.{take_at}
 use Rattle.text.specs.Kinds.{lower_of}
 use Rattle.password.specs.Password.{hash, password}
 use Rattle.generator.proofs.first.Goals as goal

@@ -3,7 +3,6 @@ use mathlib.Core.Path.{◌≡◌, sym, ap, ◌∙◌}
 use Rattle.refusal.specs.declared.Checked.{Checked}
 use Rattle.refusal.specs.declared.Reading.{Reading}
 use Rattle.password.specs.PhraseAndSeed.{phrase_checked, seed_checked}
-use Rattle.password.specs.PhraseAndSeedLaws.{good_phrase, good_seed}
 use Rattle.password.specs.Laws.{refused_phrase, refused_seed, refused_count, generated_good}
 use Rattle.generator.specs.Inside.{chained}
 use Rattle.generator.proofs.Chained.{chained-password}

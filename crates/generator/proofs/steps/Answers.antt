@@ -1,6 +1,6 @@
 -- `steps` meets its promise: x is k counts up.
-use Prim.Native.Nat.{ℕ, ◌-◌}
-use mathlib.Core.Path.{◌≡◌, refl, ap, ◌∙◌}
+use Prim.Native.Nat.{ℕ}
+use mathlib.Core.Path.{refl, ap, ◌∙◌}
 use native.Mathlib.Numerals.{add-one}
 use native.Mathlib.Omega.{arith}
 use Rattle.password.specs.Password.{hash, bytes_of}
@@ -17,4 +17,3 @@ loop-k-preserved c = (
   omega arith,
   rw add-one (c.step-x.ensures ∙ ap (λ (x : ℕ). hash c.args.algorithm (bytes_of x)) c.loop-k.invariant.1),
 )
-
