@@ -11,7 +11,8 @@ use Rattle.text.specs.Scan.{tokens, unspaced}
 use Rattle.text.specs.Digits.{number_of}
 use Rattle.dictionary.specs.declared.Found.{Found}
 use Rattle.dictionary.specs.Dictionary.{word_at, place_of, Unknown}
-use Rattle.dictionary.specs.Laws.{Spelt, unknown_word}
+use Rattle.dictionary.specs.Laws.{Spelt}
+use Rattle.dictionary.proofs.InOrder.{unknown_word}
 use Rattle.sixwords.specs.declared.Number.{Number}
 use Rattle.sixwords.specs.Places.{number_of as places_number}
 use Rattle.hex_text.specs.Hex.{sixteen_digits, hex_reading}
