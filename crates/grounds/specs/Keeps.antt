@@ -55,7 +55,6 @@ use Rattle.reached.specs.LinesChanged.{
   placed_own,
 }
 use Rattle.reached.specs.Laws.{housed_fresh}
-use Rattle.reached.specs.Outcome as Outcome
 use Rattle.reached.specs.Outcome.{Outcome}
 use Rattle.reached.proofs.Outcomes.{outcome, housed_after}
 use Rattle.reached.specs.Made.{TurnRight, Standing, LineRight, Idle, AccountGood, RoomGood, PortGood, Made}
