@@ -56,7 +56,7 @@ use Rattle.grounds.specs.Given.{numbers_given}
 use Rattle.grounds.specs.Keeps.{made}
 use Rattle.grounds.specs.Exactly as Rows
 use Rattle.grounds.specs.Refusing as Refusing
-use Rattle.grounds.specs.RefusingCalls.{call_exactly}
+use Rattle.grounds.proofs.CallsRefused.{call_exactly}
 use Rattle.grounds.specs.CardProgram as CardProgram
 use Rattle.grounds.specs.Unchanged.{refused_unchanged}
 use Rattle.grounds.specs.HandedOn.{call_never, reply_handed_on, renewal_handed_on}

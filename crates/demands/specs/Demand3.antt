@@ -33,7 +33,9 @@ turn_begins s r p i e later q t =
 pub turn_begins_quiet : (s : State) → Reached s → (p i : ℕ) → (join p i s).answer ≡ Checked.Good
     → (calls : List Call) → every (quiet p i) calls ≡ true → 180 ≤ ticks calls
     → TurnBegins p i 180 calls (join p i s).state
-turn_begins_quiet s r p i e calls q t = turn_begins s r p i e calls (all_meanwhile p i calls (join p i s).state q) t
+turn_begins_quiet s r p i e calls q t =
+    let waits = joined_waits p i s (made s r) e in
+    wait_ends p i calls 180 (join p i s).state waits.0 waits.1 waits.2 (all_meanwhile p i calls (join p i s).state q) t
 
 -- "Whenever the front port leaves, for any reason, the next one starts at 60. A port that joins an empty line starts at 60 at once":
 -- whatever call gives a port its turn for an account, the turn of that account's line stands at 60 then.

@@ -30,7 +30,7 @@ steps_down_by_id s r p i n password t e =
     let then = taken_by_id p i n (Offered.Login password) s (offer p password s).state (made s r) t (login_taken p n password s e) in
     subst (λ (room : Room). (n ≡ room.count) × SteppedDown (account_of i s) room) then
     (subst (λ (room : Room). (n ≡ (waited_for p s (offer p password s).state).count) × SteppedDown room (waited_for p s (offer p password s).state)) before
-    (accepted_steps_down p n password s e))
+    (taken_steps_down p n (Offered.Login password) s (offer p password s).state refl (login_taken p n password s e)))
 
 -- R-1, "an account keeps its algorithm": on any table, whatever call is made that is no renewal and doesn't remove the account.
 pub algorithm_kept : (s : State) (i : ℕ) → is_there i s ≡ true → (c : Call) → keeps_algorithm i c ≡ true

@@ -43,12 +43,12 @@ reading_refusal_first_in_renewal port number count seed new text s why e = Texts
 pub read_is_reply : (port : ℕ) (text : List ℕ) (s : State) → text_checked (reply_text_of text) ≡ Checked.Good
     → read_and_offered port text s ≡ old.reply port text s
 read_is_reply port text s e =
-    read_then_offer_is_reply port text s ∙ ap (λ (k : Checked). unless (reply_refused s) k (old.reply port text s)) e
+    TextsOffered.reply_as_before port text s ∙ ap (λ (k : Checked). unless (reply_refused s) k (old.reply port text s)) e
 
 pub read_is_renew : (port number count : ℕ) (seed new text : List ℕ) (s : State) → read_checked (reading_of text) ≡ Checked.Good
     → read_and_renewed port number count seed (number_of new) text s ≡ old.renew port number count seed new text s
 read_is_renew port number count seed new text s e =
-    read_then_offer_is_renew port number count seed new text s
+    TextsOffered.renew_as_before port text s number count seed new
     ∙ ap (λ (k : Checked). unless (reply_refused s) k (old.renew port number count seed new text s)) e
 
 -- What the reading refuses now, the old call refused so too, unless the table refused before it: by 55, 59, 60, 58, or of a renewal that is laid out as one by

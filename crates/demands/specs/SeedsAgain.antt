@@ -133,7 +133,7 @@ nine_seeds_differ s i there calls keep j = seeds_differ i calls s there keep j
 pub comes_back_ninth : (s : State) (i : ℕ) → is_there i s ≡ true → (calls : List Call) → every (keeps_account i) calls ≡ true
     → (j k : ℕ) → j < k → k < length (seeds_along i calls s)
     → get_or (seeds_along i calls s) j [] ≡ get_or (seeds_along i calls s) k [] → j + 9 ≤ k
-comes_back_ninth s i there calls keep = nine_apart (seeds_along i calls s) (nine_seeds_differ s i there calls keep)
+comes_back_ninth s i there calls keep = nine_apart (seeds_along i calls s) (seeds_differ i calls s there keep)
 
 -- With the ninth it may: `begun` is an account with the seed `lift1`, and the calls renew it nine times, the last time with its first seed.
 pub ninth_renewal_may : seeds_along 1 nine_renewals begun

@@ -1,5 +1,5 @@
 -- The dictionary's laws: its two runs, and that each word has one place, which is where the look-up finds it.
-use Rattle.std.specs.Prelude.{ℕ, zero, suc, ◌+◌, ◌*◌, ◌-◌, ◌/◌, ◌%◌, ◌^◌, ◌≤◌, ◌<◌, ◌≡◌, refl, ◌↔◌, Bool, true, false, cond, ◌&&◌, T, leb, eqb, length, get_or, take, drop}
+use Rattle.std.specs.Prelude.{ℕ, zero, suc, ◌+◌, ◌*◌, ◌-◌, ◌/◌, ◌%◌, ◌^◌, ◌≤◌, ◌<◌, ◌≡◌, refl, Bool, true, false, cond, ◌&&◌, T, leb, eqb, length, get_or, take, drop}
 use Rattle.std.proofs.Common.{arith, le_of_suc-le-suc, not-suc-le-zero, sym, ◌∙◌, ap, ap₂, leb→le, eqb→eq, get_or-take, get_or-drop, lt-ltb, le-ltb, eq-eqb, ne_eqb, eqb-true}
 use Rattle.std.proofs.Math.Decide.{dec_lt}
 use Rattle.std.proofs.lemmas.Bool.{false≢true}
@@ -10,22 +10,8 @@ use Rattle.dictionary.specs.declared.Found.{Found}
 use Rattle.text.specs.Quoted.{codes}
 use Rattle.text.specs.Tests.{same, same_equal, same_self, cases}
 use Rattle.dictionary.specs.Words.{words_in, lines, words}
-use Rattle.dictionary.specs.Dictionary.{
-  number_from,
-  packed,
-  unfilled,
-  letters_of,
-  dictionary,
-  word_at,
-  packed_at,
-  place_from,
-  found_of,
-  stands_from,
-  place_of,
-  Unknown,
-}
-use Rattle.dictionary.specs.Runs.{TwoRuns}
-use Rattle.dictionary.specs.Order.{both, each, each_at, rising, rising_at, in_order, in_order_at}
+use Rattle.dictionary.specs.Dictionary.{number_from, packed, unfilled, letters_of, dictionary, word_at, packed_at, place_from, found_of, stands_from, place_of}
+use Rattle.dictionary.specs.Order.{both, each, each_at, rising, in_order}
 
 -- one to three letters; four letters; upper-case letters only
 abbrev is_short : List ℕ → Bool
@@ -38,7 +24,7 @@ abbrev all_upper : List ℕ → Bool
 all_upper [] = true
 all_upper (c ∷ cs) = (leb 65 c && leb c 90) && all_upper cs
 
-words_count : length words ≡ 2048
+pub words_count : length words ≡ 2048
 unfolding words lines codes words_in flatten
 words_count = refl
 
@@ -54,61 +40,46 @@ all_upper_lem : T (each all_upper words)
 unfolding words lines codes words_in flatten
 all_upper_lem = tt
 
-short_in_order : T (in_order (take 571 words))
+pub short_in_order : T (in_order (take 571 words))
 unfolding words lines codes words_in flatten
 short_in_order = tt
 
-long_in_order : T (in_order (drop 571 words))
+pub long_in_order : T (in_order (drop 571 words))
 unfolding words lines codes words_in flatten
 long_in_order = tt
 
-packed_rising : T (rising 1 dictionary)
+pub packed_rising : T (rising 1 dictionary)
 unfolding dictionary packed number_from words lines codes words_in flatten
 packed_rising = tt
 
 -- the words of the first run, and of the second
-from_first : (i : ℕ) → i < 571 → get_or (take 571 words) i [] ≡ word_at i
+pub from_first : (i : ℕ) → i < 571 → get_or (take 571 words) i [] ≡ word_at i
 from_first i h = get_or-take 571 words i [] h
 
-from_second : (i : ℕ) → 571 ≤ i → get_or (drop 571 words) (i - 571) [] ≡ word_at i
+pub from_second : (i : ℕ) → 571 ≤ i → get_or (drop 571 words) (i - 571) [] ≡ word_at i
 from_second i h =
     let e : 571 + (i - 571) ≡ i = omega arith in
     get_or-drop 571 words (i - 571) [] ∙ ap (λ (n : ℕ). get_or words n []) e
 
-first_count : length (take 571 words) ≡ 571
+pub first_count : length (take 571 words) ≡ 571
 unfolding words lines codes words_in flatten
 first_count = refl
 
-second_count : length (drop 571 words) ≡ 1477
+pub second_count : length (drop 571 words) ≡ 1477
 unfolding words lines codes words_in flatten
 second_count = refl
 
-short_at : (i : ℕ) → i < 571 → (1 ≤ length (word_at i)) × (length (word_at i) ≤ 3)
+pub short_at : (i : ℕ) → i < 571 → (1 ≤ length (word_at i)) × (length (word_at i) ≤ 3)
 short_at i h =
     let t = rw (from_first i h) at (each_at is_short (take 571 words) all_short i (rw first_count h)) in
     let b = both (leb 1 (length (word_at i))) (leb (length (word_at i)) 3) t in
     (leb→le 1 (length (word_at i)) b.0, leb→le (length (word_at i)) 3 b.1)
 
-long_at : (i : ℕ) → 571 ≤ i → i < 2048 → length (word_at i) ≡ 4
+pub long_at : (i : ℕ) → 571 ≤ i → i < 2048 → length (word_at i) ≡ 4
 long_at i l h =
     let in-run : i - 571 < 1477 = omega arith in
     let t = rw (from_second i l) at (each_at is_long (drop 571 words) all_long (i - 571) (rw second_count in-run)) in
     eqb→eq (length (word_at i)) 4 t
-
--- 01, Six words and hex: the paper's sentence on the two runs, at each place
-pub two_runs : TwoRuns words
-two_runs =
-    record {
-      count = words_count;
-      short = short_at;
-      long = long_at;
-      short_rising = λ i j l h.
-          rw (from_first j h, from_first i (omega arith)) at
-          (in_order_at (take 571 words) short_in_order i j l (rw first_count h));
-      long_rising = λ i j k l h.
-          rw (from_second j (omega arith), from_second i k) at
-          (in_order_at (drop 571 words) long_in_order (i - 571) (j - 571) (omega arith) (rw second_count (omega arith)));
-    }
 
 -- the packed words rise strictly, the two runs as one
 pub dictionary_count : length dictionary ≡ 2048
@@ -119,31 +90,7 @@ pub packed_at_lem : (i : ℕ) → packed_at i ≡ packed (word_at i)
 unfolding dictionary packed number_from
 packed_at_lem i = get_or-map packed words i []
 
-pub packed_order : (i j : ℕ) → i < j → j < 2048 → packed_at i < packed_at j
-packed_order i j l h = rising_at 1 dictionary packed_rising i j l (rw dictionary_count h)
-
-pub packed_one_place : (i j : ℕ) → i < 2048 → j < 2048 → packed_at i ≡ packed_at j → i ≡ j
-packed_one_place i j h k e = go (dec_lt i j) (dec_lt j i)
-  where
-    go : Dec (i < j) → Dec (j < i) → i ≡ j
-    go (yes l) d = let o = packed_order i j l k in absurd (omega arith)
-    go (no l) (yes m) = let o = packed_order j i m h in absurd (omega arith)
-    go (no l) (no m) = omega arith
-
--- a word has one place
-pub one_place : (i j : ℕ) → i < 2048 → j < 2048 → word_at i ≡ word_at j → i ≡ j
-one_place i j h k e = packed_one_place i j h k (packed_at_lem i ∙ ap packed e ∙ sym (packed_at_lem j))
-
 -- where a look-up ends
-place_there : (n x : ℕ) (xs : List ℕ) (k : ℕ) → k < length xs → get_or xs k 0 ≡ x → ((j : ℕ) → j < k → get_or xs j 0 ≡ x → ⊥) →
-    place_from n x xs ≡ Found.At (n + k)
-unfolding place_from
-place_there n x [] k h e f = absurd (not-suc-le-zero h)
-place_there n x (y ∷ ys) zero h e f = rw (eq-eqb x y (sym e)) (ap Found.At (omega arith))
-place_there n x (y ∷ ys) (suc k) h e f =
-    rw (ne_eqb x y (λ p. f zero (omega arith) (sym p)))
-    (place_there (suc n) x ys k (le_of_suc-le-suc h) e (λ j l. f (suc j) (omega arith)) ∙ ap Found.At (omega arith))
-
 place_nowhere : (n x : ℕ) (xs : List ℕ) → ((j : ℕ) → j < length xs → get_or xs j 0 ≡ x → ⊥) → place_from n x xs ≡ Found.Nothing
 unfolding place_from
 place_nowhere n x [] f = refl
@@ -162,14 +109,7 @@ place_is n x (y ∷ ys) m e = go (eqb x y) refl e (place_is (suc n) x ys m)
     go true t e later = let same : n ≡ m = cc in (0, omega arith, omega arith, sym (eqb-true x y t))
     go false t e later = let r = later e in (suc r.0, omega arith, omega arith, r.3)
 
--- the look-up finds a word at its place, and nothing else
-pub at_place : (i : ℕ) → i < 2048 → found_of (packed_at i) ≡ Found.At i
-unfolding found_of
-at_place i h =
-    place_there 0 (packed_at i) dictionary i (rw dictionary_count h) refl
-    (λ j l e. let o = packed_order j i l h in omega arith) ∙
-    ap Found.At (omega arith)
-
+-- the look-up finds nothing else
 pub no_place : (x : ℕ) → ((i : ℕ) → i < 2048 → packed_at i ≡ x → ⊥) → found_of x ≡ Found.Nothing
 unfolding found_of
 no_place x f = place_nowhere 0 x dictionary (λ j l. f j (rw dictionary_count at l))
@@ -181,9 +121,6 @@ found_place x i e =
     let same : r.0 ≡ i = omega arith in
     let h : r.0 < 2048 = rw dictionary_count at r.2 in
     (omega arith, ap packed_at (sym same) ∙ r.3)
-
-pub found_exactly : (x i : ℕ) → (found_of x ≡ Found.At i) ↔ ((i < 2048) × (packed_at i ≡ x))
-found_exactly x i = (found_place x i, (λ h. ap found_of (sym h.1) ∙ at_place i h.0))
 
 -- one to four letters, each a byte other than 0
 pub record Spelt (w : List ℕ) : Type 0 where
@@ -286,30 +223,3 @@ stands_packed i w (v ∷ vs) s f =
 pub place_packed : (w : List ℕ) → Spelt w → found_of (packed w) ≡ place_of w
 unfolding found_of place_of dictionary
 place_packed w s = stands_packed 0 w words s (λ k h. word_spelt k (rw words_count at h))
-
--- a word of one to four letters is found at a place exactly if it stands there
-pub found_word : (w : List ℕ) → Spelt w → (i : ℕ) → (place_of w ≡ Found.At i) ↔ ((i < 2048) × (word_at i ≡ w))
-found_word w s i = (there, found)
-  where
-    there : place_of w ≡ Found.At i → (i < 2048) × (word_at i ≡ w)
-    there e =
-        let r = found_place (packed w) i (place_packed w s ∙ e) in
-        (r.0, packed_injective (word_at i) w (word_spelt i r.0) s (sym (packed_at_lem i) ∙ r.1))
-
-    found : (i < 2048) × (word_at i ≡ w) → place_of w ≡ Found.At i
-    found h = sym (place_packed w s) ∙ ap found_of (ap packed (sym h.1) ∙ sym (packed_at_lem i)) ∙ at_place i h.0
-
--- and is not found exactly if it stands nowhere
-pub unknown_word : (w : List ℕ) → Spelt w → (place_of w ≡ Found.Nothing) ↔ Unknown w
-unknown_word w s = (nowhere, unknown)
-  where
-    nowhere : place_of w ≡ Found.Nothing → Unknown w
-    nowhere e i h f =
-        let there = (found_word w s i).1 (h, f) in
-        let z : ◌≡◌ {A = ℕ} 0 1 = cc in
-        omega arith
-
-    unknown : Unknown w → place_of w ≡ Found.Nothing
-    unknown f =
-        sym (place_packed w s) ∙ no_place (packed w)
-        (λ i h e. f i h (packed_injective (word_at i) w (word_spelt i h) s (sym (packed_at_lem i) ∙ e)))

@@ -1,16 +1,15 @@
 -- The law of rows, and how an answer behind checks goes by theirs.
-use Rattle.std.specs.Prelude.{ℕ, ◌≤◌, ◌<◌, ◌≡◌, Bool, cond, not, ◌&&◌, ◌||◌, eqb, leb, ltb}
-use Rattle.std.proofs.Common.{arith, ap₂, ◌∙◌, subst, eqb-true, ltb-true, leb-true}
+use Rattle.std.specs.Prelude.{ℕ, ◌≤◌, ◌<◌, ◌≡◌, Bool, cond, not, ◌&&◌, leb, ltb}
+use Rattle.std.proofs.Common.{arith, ap₂, ◌∙◌, subst, ltb-true, leb-true}
 use Rattle.std.proofs.Math.Path.{refl, sym, ap}
 use Rattle.std.proofs.Math.Bool.{true, false}
-use Rattle.std.proofs.lemmas.Bool.{false≢true}
 use mathlib.Core.List.{List, [], ◌∷◌, ◌++◌}
 use Rattle.refusal.specs.declared.Refusal.{Refusal}
 use Rattle.refusal.specs.declared.Checked.{Checked}
 use Rattle.refusal.specs.Numbers.{listing_of}
 use Rattle.refusal.specs.Checks.{must, unless}
 use Rattle.refusal.specs.Laws.{must_good}
-use Rattle.text.specs.Tests.{every, both}
+use Rattle.text.specs.Tests.{both}
 use Rattle.grounds.specs.Listed.{is_in, listed}
 use Rattle.grounds.specs.Conditions.{Row, NoneHolds, FirstHolds, Exactly}
 
@@ -50,24 +49,45 @@ refusal_listed Refusal.ReplyWrongThird = refl
 refusal_listed Refusal.SeedSame = refl
 refusal_listed Refusal.LinesOutside = refl
 
-in_every : (test : ℕ → Bool) (n : ℕ) (ns : List ℕ) → is_in n ns ≡ true → every test ns ≡ true → test n ≡ true
-unfolding every
-in_every test n [] e h = absurd (false≢true e)
-in_every test n (m ∷ ns) e h = go (eqb n m) refl e (in_every test n ns)
-  where
-    halves : (test m ≡ true) × (every test ns ≡ true)
-    halves = both (test m) (every test ns) h
+-- A refusal's number is not 0, and no larger than a count: from each refusal's number, not from the list.
+bounded : (why : Refusal) → (ltb 0 (listing_of why).0 && leb (listing_of why).0 9999) ≡ true
+bounded Refusal.PhraseShort = refl
+bounded Refusal.PhraseLong = refl
+bounded Refusal.InputLong = refl
+bounded Refusal.CountHigh = refl
+bounded Refusal.OpeningWrong = refl
+bounded Refusal.AlgorithmUnknown = refl
+bounded Refusal.CountUnread = refl
+bounded Refusal.SeedLength = refl
+bounded Refusal.SeedCharacter = refl
+bounded Refusal.SeedUnended = refl
+bounded Refusal.ReplyLong = refl
+bounded (Refusal.WordUnknown marks) = refl
+bounded Refusal.PairSumWrong = refl
+bounded Refusal.ReplyUnread = refl
+bounded Refusal.TypeUnknown = refl
+bounded Refusal.PartsWrong = refl
+bounded Refusal.BufferShort = refl
+bounded Refusal.IdZero = refl
+bounded Refusal.CountOutside = refl
+bounded Refusal.IdTaken = refl
+bounded Refusal.TableFull = refl
+bounded Refusal.AccountMissing = refl
+bounded Refusal.PortUnknown = refl
+bounded Refusal.PortInLine = refl
+bounded Refusal.PortShut = refl
+bounded Refusal.AccountUsedUp = refl
+bounded Refusal.PortNotInLine = refl
+bounded Refusal.PortNotInFront = refl
+bounded Refusal.ReplyWrong = refl
+bounded Refusal.ReplyWrongThird = refl
+bounded Refusal.SeedSame = refl
+bounded Refusal.LinesOutside = refl
 
-    go : (b : Bool) → eqb n m ≡ b → (b || is_in n ns) ≡ true → (is_in n ns ≡ true → every test ns ≡ true → test n ≡ true) → test n ≡ true
-    go true f e later = ap test (eqb-true n m f) ∙ halves.0
-    go false f e later = later e halves.1
-
--- A refusal's number is not 0, and no larger than a count.
 pub number_bounds : (why : Refusal) → (0 < (listing_of why).0) × ((listing_of why).0 ≤ 9999)
-unfolding every
 number_bounds why =
     let n = (listing_of why).0 in
-    let parts = both (ltb 0 n) (leb n 9999) (in_every (λ (m : ℕ). ltb 0 m && leb m 9999) n listed (refusal_listed why) refl) in
+    let parts = both (ltb 0 n) (leb n 9999) (bounded why) in
     (ltb-true 0 n parts.0, leb-true n 9999 parts.1)
 
 -- ---- the law of rows

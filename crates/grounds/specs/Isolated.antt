@@ -65,8 +65,8 @@ use Rattle.reached.specs.RoomsFound.{apart_once}
 use Rattle.reached.specs.RoomsChanged.{there_parts}
 use Rattle.line.specs.Laws.{ticked-empty}
 use Rattle.reached.specs.LinesChanged.{left_out, stands_found, stands_once, stands_inside}
-use Rattle.reached.specs.Outcome as Outcome
-use Rattle.reached.specs.Outcome.{Outcome, outcome, join_good}
+use Rattle.reached.specs.Outcome.{Outcome, join_good}
+use Rattle.reached.proofs.Outcomes.{outcome}
 use Rattle.grounds.specs.Few.{three_others}
 use Rattle.grounds.specs.HeldAfter.{
   found-lined,

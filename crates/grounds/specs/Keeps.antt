@@ -54,9 +54,9 @@ use Rattle.reached.specs.LinesChanged.{
   join_each,
   placed_own,
 }
-use Rattle.reached.specs.Laws.{housed_after, housed_fresh}
-use Rattle.reached.specs.Outcome as Outcome
-use Rattle.reached.specs.Outcome.{Outcome, outcome}
+use Rattle.reached.specs.Laws.{housed_fresh}
+use Rattle.reached.specs.Outcome.{Outcome}
+use Rattle.reached.proofs.Outcomes.{outcome, housed_after}
 use Rattle.reached.specs.Made.{TurnRight, Standing, LineRight, Idle, AccountGood, RoomGood, PortGood, Made}
 use Rattle.grounds.specs.Standing.{turn-left, turn-joined, turn-ticked}
 use Rattle.grounds.specs.Starts.{front_stands}

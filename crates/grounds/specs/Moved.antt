@@ -10,7 +10,6 @@ use Rattle.table.specs.Table.{State, Held, free_room, place_of, holds, is_there,
 use Rattle.table.specs.Steps as Steps
 use Rattle.reached.specs.Calls.{Call}
 use Rattle.reached.specs.InTurn.{tick_of}
-use Rattle.reached.specs.Outcome as Outcome
 use Rattle.reached.specs.Outcome.{Outcome, NotBy, NotFor}
 use Rattle.reached.specs.Made.{Made}
 use Rattle.reached.specs.RoomsFound.{apart_once}

@@ -22,7 +22,8 @@ use Rattle.reached.specs.SeedLaws.{SeedStep}
 use Rattle.reached.specs.RoomsChanged.{there_parts}
 use Rattle.reached.specs.LinesChanged.{fewer_left, fewer_ticked}
 use Rattle.reached.specs.Outcome as Outcome
-use Rattle.reached.specs.Outcome.{Outcome, outcome}
+use Rattle.reached.specs.Outcome.{Outcome}
+use Rattle.reached.proofs.Outcomes.{outcome}
 use Rattle.reached.specs.Made.{Once, Made}
 use Rattle.grounds.specs.Standing.{none_fewer, none_joined}
 use Rattle.grounds.specs.HeldAfter.{enrolled_other, removed_other, lined_other, lined_own, left_held, accepted_own, accepted_other}

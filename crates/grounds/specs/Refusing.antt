@@ -23,7 +23,7 @@ use Rattle.password.specs.Algorithm.{algorithm_number, algorithm_name, algorithm
 use Rattle.password.specs.Password.{generated_by, generated}
 use Rattle.dictionary.specs.declared.Found.{Found}
 use Rattle.dictionary.specs.Dictionary.{place_of}
-use Rattle.dictionary.specs.Laws.{found_word}
+use Rattle.dictionary.proofs.InOrder.{found_word}
 use Rattle.sixwords.specs.declared.Number.{Number}
 use Rattle.sixwords.specs.Places.{joined, all_places, number_of as places_number}
 use Rattle.hex_text.specs.Hex.{sixteen_digits, hex_reading}

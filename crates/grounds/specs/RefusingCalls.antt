@@ -21,25 +21,16 @@ use Rattle.table.specs.Table.{State, Held, fresh_port, holds, is_there, account_
 use Rattle.table.specs.TableChecks.{account_held}
 use Rattle.table.specs.Steps as Steps
 use Rattle.table.specs.Steps.{After, refused, reply_refused, enrol_checked, join_checked, leave_checked, turn_checked, challenge_for, compared}
-use Rattle.reached.specs.Calls.{Call, checked_answer, replied_answer, answer, numbers}
+use Rattle.reached.specs.Calls.{Call, checked_answer, replied_answer}
 use Rattle.reached.specs.Offered.{Offered, new_values_checked, offer_checked, present_in, next_of, offers}
 use Rattle.reached.specs.OfferedLaws.{offer-offers, renewal_offers}
 use Rattle.reached.specs.Made.{Made, PortGood}
 use Rattle.reached.specs.Equal.{times, accounts_in}
 use Rattle.reached.specs.RoomsFound.{holds-times, accounts_free}
 use Rattle.reached.specs.Outcome.{turn_good}
-use Rattle.grounds.specs.Conditions.{Row, Exactly, algorithm_rows, seed_rows, values_rows, turn_rows, is_third, wrong_rows, conditions_of}
+use Rattle.grounds.specs.Conditions.{Row, algorithm_rows, seed_rows, values_rows, turn_rows, is_third, wrong_rows, conditions_of}
 use Rattle.grounds.specs.Exactly.{listed_as, Follows, no_rows, behind, behind_test, then_check, then_test}
-use Rattle.grounds.specs.Refusing.{
-  answer_checked,
-  answer_exactly,
-  written_checked,
-  algorithm_rows_lem,
-  seed_rows_lem,
-  values_rows_lem,
-  not-leb,
-  room_rows_lem,
-}
+use Rattle.grounds.specs.Refusing.{answer_checked, written_checked, algorithm_rows_lem, seed_rows_lem, values_rows_lem, not-leb, room_rows_lem}
 use Rattle.grounds.specs.Keeps.{held_good, account_good, has_turn_lem}
 use Rattle.grounds.specs.Answering.{seed_checked_lem}
 
@@ -83,7 +74,7 @@ replied_checked a = answer_checked (replied_answer a.answer)
 
 -- ---- Enrol, Remove, Join, Leave
 
-enrol_rows : (id number count : ℕ) (seed password : List ℕ) (s : State) → Made s
+pub enrol_rows : (id number count : ℕ) (seed password : List ℕ) (s : State) → Made s
     → Follows (settled_checked (Steps.enrol id number count seed password s)) (conditions_of (Call.Enrol id number count seed password) s)
 unfolding Steps.enrol enrol_checked
 enrol_rows id number count seed password s m =
@@ -96,12 +87,12 @@ enrol_rows id number count seed password s m =
     (λ e. then_test (holds 0 s.rooms) _ Refusal.TableFull _ _ (full s.rooms m.room_count) (λ f. no_rows Checked.Good refl)))))))
     (λ e. no_rows Checked.Good refl)
 
-remove_rows : (id : ℕ) (s : State) → Follows (settled_checked (Steps.remove id s)) (conditions_of (Call.Remove id) s)
+pub remove_rows : (id : ℕ) (s : State) → Follows (settled_checked (Steps.remove id s)) (conditions_of (Call.Remove id) s)
 unfolding Steps.remove
 remove_rows id s =
     behind_test settled_checked (refused s) (λ why. refl) (is_there id s) _ Refusal.AccountMissing _ [] refl (λ e. no_rows Checked.Good refl)
 
-join_rows : (port id : ℕ) (s : State) → Made s → Follows (settled_checked (Steps.join port id s)) (conditions_of (Call.Join port id) s)
+pub join_rows : (port id : ℕ) (s : State) → Made s → Follows (settled_checked (Steps.join port id s)) (conditions_of (Call.Join port id) s)
 unfolding Steps.join join_checked
 join_rows port id s m =
     behind settled_checked (refused s) (λ why. refl) _ _ (conditions_of (Call.Join port id) s) []
@@ -113,7 +104,7 @@ join_rows port id s m =
     (used_up (account_of id s).count (account_good id s b m.good).count_from) (λ e. no_rows Checked.Good refl))))))
     (λ e. no_rows Checked.Good refl)
 
-leave_rows : (port : ℕ) (s : State) → Follows (settled_checked (Steps.leave port s)) (conditions_of (Call.Leave port) s)
+pub leave_rows : (port : ℕ) (s : State) → Follows (settled_checked (Steps.leave port s)) (conditions_of (Call.Leave port) s)
 unfolding Steps.leave leave_checked
 leave_rows port s =
     behind settled_checked (refused s) (λ why. refl) _ _ (conditions_of (Call.Leave port) s) []
@@ -138,7 +129,7 @@ turn_rows_lem port s m =
     (used_up (own_account port s).count (held_good (stands_at port s.rooms) s m.good there).count_from) (λ e. no_rows Checked.Good refl)))))
 
 -- The challenge writer's own checks, 23, 24 and 13, find nothing wrong with a good account.
-challenge_rows_lem : (port room : ℕ) (s : State) → Made s
+pub challenge_rows_lem : (port room : ℕ) (s : State) → Made s
     → Follows (written_checked (Steps.challenge port room s)) (conditions_of (Call.Challenge port room) s)
 unfolding Steps.challenge challenge_written_by
 challenge_rows_lem port room s m =
@@ -173,13 +164,13 @@ offers-rows port what rows s m f =
     (then_check (turn_checked port s) _ (turn_rows port s) rows (turn_rows_lem port s m) (λ e. f))
     (λ e. compared_rows port (present_in what) (next_of what (own_account port s)) s m)
 
-offer_rows : (port password : ℕ) (s : State) → Made s
+pub offer_rows : (port password : ℕ) (s : State) → Made s
     → Follows (replied_checked (Steps.offer port password s)) (conditions_of (Call.Offer port password) s)
 offer_rows port password s m =
     subst (λ (a : After Replied). Follows (replied_checked a) (conditions_of (Call.Offer port password) s)) (sym (offer-offers port password s))
     (offers-rows port (Offered.Login password) [] s m (no_rows Checked.Good refl))
 
-renewal_rows : (port number count : ℕ) (seed : List ℕ) (new password : ℕ) (s : State) → Made s
+pub renewal_rows : (port number count : ℕ) (seed : List ℕ) (new password : ℕ) (s : State) → Made s
     → Follows (replied_checked (Steps.offer_renewal port number count seed new password s))
     (conditions_of (Call.OfferRenewal port number count seed new password) s)
 renewal_rows port number count seed new password s m =
@@ -187,18 +178,3 @@ renewal_rows port number count seed new password s m =
     (sym (renewal_offers port number count seed new password s))
     (offers-rows port (Offered.Renewal number count seed new password) (values_rows number count seed (own_account port s)) s m
     (values_rows_lem number count seed (own_account port s)))
-
--- ---- each call
-
-call_rows : (s : State) → Made s → (c : Call) → Follows (answer_checked (answer c s)) (conditions_of c s)
-call_rows s m (Call.Enrol id number count seed password) = enrol_rows id number count seed password s m
-call_rows s m (Call.Remove id) = remove_rows id s
-call_rows s m (Call.Join port id) = join_rows port id s m
-call_rows s m (Call.Leave port) = leave_rows port s
-call_rows s m (Call.Challenge port room) = challenge_rows_lem port room s m
-call_rows s m (Call.Offer port password) = offer_rows port password s m
-call_rows s m (Call.OfferRenewal port number count seed new password) = renewal_rows port number count seed new password s m
-call_rows s m Call.Tick = no_rows Checked.Good refl
-
-pub call_exactly : (s : State) → Made s → (c : Call) → Exactly (numbers (answer c s)).0.0 (conditions_of c s)
-call_exactly s m c = answer_exactly (answer c s) (conditions_of c s) (call_rows s m c)

@@ -12,7 +12,7 @@ use Rattle.table.specs.Table.{State, Held, fresh, line_of, is_front}
 use Rattle.table.specs.Steps.{join}
 use Rattle.reached.specs.Calls.{Call, after, run}
 use Rattle.reached.specs.InTurn.{Reached, tick_of, ticks, quiet, quiet_meanwhile, has_turn_for, HasTurn, TurnBegins}
-use Rattle.reached.specs.Outcome.{outcome}
+use Rattle.reached.proofs.Outcomes.{outcome}
 use Rattle.reached.specs.RoomsChanged.{there_parts}
 use Rattle.reached.specs.Made.{TurnRight, Made}
 use Rattle.grounds.specs.HeldAfter.{stands_there}

@@ -34,8 +34,7 @@ use Rattle.reached.specs.LinesChanged.{
   lined-times,
 }
 use Rattle.reached.specs.EqualLaws.{table, join_alike, leave_alike, challenge_same, tick_equal, offer_alike, renewal_alike, remove_alike, enrol_alike}
-use Rattle.reached.specs.Outcome as Outcome
-use Rattle.reached.specs.Outcome.{Outcome, outcome}
+use Rattle.reached.specs.Outcome.{Outcome}
 
 -- ---- the accounts and the lines stay apart
 
@@ -78,7 +77,7 @@ housed_leaves port = housed_lines (left port) (fewer_left port) (left-empty port
 
 -- Whatever a call does: what is put in a room has an id that no other room has, or the one that stood there, or is free; and a port comes to a
 -- line only if it is in none.
-housed_outcome : (call : Call) (s : State) {s' : State} → Outcome call s s' → Housed s → Housed s'
+pub housed_outcome : (call : Call) (s : State) {s' : State} → Outcome call s s' → Housed s → Housed s'
 unfolding steps.tick steps.joins
 housed_outcome call s (Outcome.nothing z) h = h
 housed_outcome call s (Outcome.enrolled z room a n t f) h =
@@ -126,11 +125,7 @@ housed_outcome call s (Outcome.accepted z port next g n o i a k x) h =
 housed_outcome call s (Outcome.rejected z port g n o) h = housed_leaves port s _ h
 housed_outcome call s (Outcome.ticked z o) h = housed_lines ticked fewer_ticked ticked-empty s _ h
 
--- Every call keeps the accounts and the lines apart.
-pub housed_after : (call : Call) (s : State) → Housed s → Housed (after call s)
-housed_after call s h = housed_outcome call s (outcome call s) h
-
--- So it is in the fresh table, and in each that calls make of it.
+-- So it is in the fresh table; that every call keeps them apart is housed_after, in proofs/Outcomes.antt.
 pub housed_fresh : Housed fresh
 unfolding times in_lines
 housed_fresh = record {

@@ -17,7 +17,7 @@ use Rattle.cards.specs.CardLineLaws.{card_line}
 use Rattle.cards.specs.CardChecks.{count_of, card_checked}
 use Rattle.cards.specs.Cards.{card_of}
 use Rattle.cards.specs.Laws.{card_generated}
-use Rattle.readback.specs.ReplyRead.{hex_written_read, words_written_read}
+use Rattle.readback.specs.ReplyRead.{hex_written_read, words_read}
 
 module _ (phrase challenge : List ℕ) (k : ℕ) (e : card_checked phrase challenge k ≡ Checked.Good) where
   -- Each line's count with its words or its hex, read as a reply, is the password that the generator gives at that
@@ -44,5 +44,5 @@ module _ (phrase challenge : List ℕ) (k : ℕ) (e : card_checked phrase challe
       ∙ card_generated phrase challenge k e algorithm (n - i) (omega arith)) in (
         card_line password_at i k n h,
         hex_written_read (password_at (n - i)) small ∙ there,
-        words_written_read (password_at (n - i)) small ∙ there,
+        words_read (password_at (n - i)) small ∙ there,
       )

@@ -88,13 +88,16 @@ words_upper : (p : ℕ) → map upper_text (tokens (words_of p)) ≡ six_words_o
 words_upper p = ap (map upper_text) (words_tokens p) ∙ places_upper (places_of p) (places_all p)
 
 -- the words that a password is written with read as it
-pub words_written_read : (p : ℕ) → p < 2 ^ 64 → reading_of (words_of p) ≡ Reading.Password p
-words_written_read p h =
+pub words_read : (p : ℕ) → p < 2 ^ 64 → reading_of (words_of p) ≡ Reading.Password p
+words_read p h =
     (words_accepted (words_of p) (omega (arith, words_length p)) (ap six_words (words_tokens p) ∙ six_words_of_lem p) p).1 (h, words_upper p)
+
+pub words_written_read : (p : ℕ) → p < 2 ^ 64 → reading_of (words_of p) ≡ Reading.Password p
+words_written_read p h = words_read p h
 
 -- and two passwords written alike are one
 pub words_injective : (p q : ℕ) → p < 2 ^ 64 → q < 2 ^ 64 → words_of p ≡ words_of q → p ≡ q
-words_injective p q h k e = same_password (sym (words_written_read p h) ∙ ap reading_of e ∙ words_written_read q k)
+words_injective p q h k e = same_password (sym (words_read p h) ∙ ap reading_of e ∙ words_read q k)
 
 -- ---- hex
 hex_reading_lem : (u : List ℕ) → length u ≡ 16 → every is_hex u ≡ true → hex_reading u ≡ Reading.Password (number_of 16 u)
@@ -222,7 +225,7 @@ digits_written_read p h = (digits_accepted (unspaced (hex_of p)) p).1 (h, hex_lo
 
 -- ---- what a writer left in a buffer reads back
 pub words_read_back : (p : ℕ) (b b' : List ℕ) (n : ℕ) → p < 2 ^ 64 → Writes (words_of p) b b' (Written.Wrote n) → reading_of (take n b') ≡ Reading.Password p
-words_read_back p b b' n h w = ap reading_of (written_front (words_of p) b b' n w) ∙ words_written_read p h
+words_read_back p b b' n h w = ap reading_of (written_front (words_of p) b b' n w) ∙ words_read p h
 
 pub hex_read_back : (p : ℕ) (b b' : List ℕ) (n : ℕ) → p < 2 ^ 64 → Writes (hex_of p) b b' (Written.Wrote n) → reading_of (take n b') ≡ Reading.Password p
 hex_read_back p b b' n h w = ap reading_of (written_front (hex_of p) b b' n w) ∙ hex_written_read p h

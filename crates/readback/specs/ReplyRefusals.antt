@@ -11,7 +11,8 @@ use Rattle.text.specs.Scan.{tokens, unspaced}
 use Rattle.text.specs.Digits.{number_of}
 use Rattle.dictionary.specs.declared.Found.{Found}
 use Rattle.dictionary.specs.Dictionary.{word_at, place_of, Unknown}
-use Rattle.dictionary.specs.Laws.{Spelt, unknown_word}
+use Rattle.dictionary.specs.Laws.{Spelt}
+use Rattle.dictionary.proofs.InOrder.{unknown_word}
 use Rattle.sixwords.specs.declared.Number.{Number}
 use Rattle.sixwords.specs.Places.{number_of as places_number}
 use Rattle.hex_text.specs.Hex.{sixteen_digits, hex_reading}
@@ -54,18 +55,22 @@ hex_why u why e = go (sixteen_digits u) e
     go false q = (refl, cc)
 
 -- ---- 30: "reply over 128 bytes"
-pub long_refused : (text : List ℕ) → (reading_of text ≡ Reading.Refused Refusal.ReplyLong) ↔ (128 < length text)
+-- The two halves, which what follows rests on.
+pub long_told : (text : List ℕ) → 128 < length text → reading_of text ≡ Reading.Refused Refusal.ReplyLong
 unfolding reading_of
-long_refused text = (
-  λ e. cases (leb (length text) 128) (λ t. absurd (short (leb-true (length text) 128 t) e)) (λ t. leb-false (length text) 128 t),
-  λ h. rw (lt-ltb 128 (length text) h),
-)
+long_told text h = rw (lt-ltb 128 (length text) h)
+
+pub long_only : (text : List ℕ) → reading_of text ≡ Reading.Refused Refusal.ReplyLong → 128 < length text
+long_only text e = cases (leb (length text) 128) (λ t. absurd (short (leb-true (length text) 128 t) e)) (λ t. leb-false (length text) 128 t)
   where
     short : length text ≤ 128 → reading_of text ≡ Reading.Refused Refusal.ReplyLong → ⊥
     short h e =
         cases (six_words (tokens text))
         (λ s. absurd (omega (arith, (words_why (map place_of (map upper_text (tokens text))) Refusal.ReplyLong (sym (reads_words text h s) ∙ e)).0)))
         (λ s. let why = (hex_why (unspaced text) Refusal.ReplyLong (sym (reads_hex text h s) ∙ e)).1 in never (cc))
+
+pub long_refused : (text : List ℕ) → (reading_of text ≡ Reading.Refused Refusal.ReplyLong) ↔ (128 < length text)
+long_refused text = (long_only text, long_told text)
 
 -- ---- 33: "neither six words nor sixteen digits"
 pub unread_refused : (text : List ℕ) → length text ≤ 128 →
@@ -98,7 +103,7 @@ reading_why text why e = cases (leb (length text) 128) (λ t. short (leb-true (l
 
     long : 128 < length text → Between 30 33 why
     long h =
-        let told : Reading.Refused Refusal.ReplyLong ≡ Reading.Refused why = sym ((long_refused text).1 h) ∙ e in
+        let told : Reading.Refused Refusal.ReplyLong ≡ Reading.Refused why = sym (long_told text h) ∙ e in
         let same : Refusal.ReplyLong ≡ why = cc in
         subst (Between 30 33) same (omega arith, omega arith)
 
@@ -116,7 +121,7 @@ unknown_text text m e = cases (leb (length text) 128) (λ t. short (leb-true (le
     long : leb (length text) 128 ≡ false → (length text ≤ 128) × (six_words (tokens text) ≡ true)
     long t =
         let told : Reading.Refused (Refusal.WordUnknown m) ≡ Reading.Refused Refusal.ReplyLong =
-        sym e ∙ (long_refused text).1 (leb-false (length text) 128 t) in
+        sym e ∙ long_told text (leb-false (length text) 128 t) in
         never (cc)
 
 -- ---- 32

@@ -25,7 +25,7 @@ use Rattle.readback.specs.LaidOut.{
   by_new,
   by_present,
 }
-use Rattle.readback.specs.ReplyRefusals.{never, long_refused, reading_why}
+use Rattle.readback.specs.ReplyRefusals.{never, long_told, long_only, reading_why}
 use Rattle.readback.specs.PartMeaning.{part_accepted, part-why}
 use Rattle.readback.specs.TypedParts.{two_said, four_said}
 use Rattle.readback.specs.ReadTo.{Unread, refused_from}
@@ -116,13 +116,13 @@ long_text text = (λ e. go ((text_refused text Refusal.ReplyLong).0 e), λ h. (t
     go (by_30 q some long) = rw (ne_eqb (colons text) 0 (λ z. omega arith)) long
     go (by_34 q some few none) = never (cc)
     go (by_35 q few kind o other) = never (cc)
-    go (by_plain z r) = rw (eq-eqb (colons text) 0 z) ((long_refused text).0 r)
+    go (by_plain z r) = rw (eq-eqb (colons text) 0 z) (long_only text r)
     go (by_login kind present few t r) = absurd (of_part kind present r)
     go (by_new kind present parameters new few t r) = absurd (of_part kind new r)
     go (by_present kind present parameters new few t p n r) = absurd (of_part kind present r)
 
     back : (n : ℕ) → colons text ≡ n → cond (eqb n 0) 128 256 < length text → RefusedBy text Refusal.ReplyLong
-    back zero e h = by_plain e ((long_refused text).1 h)
+    back zero e h = by_plain e (long_told text h)
     back (suc n) e h = by_30 refl (omega arith) (rw (ne_eqb (suc n) 0 (λ z. omega arith)) at h)
 
 -- no password is refused with 34 or 35

@@ -14,7 +14,8 @@ use Rattle.text.specs.Scan.{tokens}
 use Rattle.text.specs.ScanLaws.{tokens_one, tokens_space}
 use Rattle.dictionary.specs.declared.Found.{Found}
 use Rattle.dictionary.specs.Dictionary.{word_at, place_of}
-use Rattle.dictionary.specs.Laws.{word_upper, word_spelt, found_word}
+use Rattle.dictionary.specs.Laws.{word_upper, word_spelt}
+use Rattle.dictionary.proofs.InOrder.{found_word}
 use Rattle.sixwords.specs.declared.Number.{Number}
 use Rattle.sixwords.specs.Places.{all_places, number_of}
 use Rattle.sixwords.specs.Spelling.{spaced_from}

@@ -5,7 +5,8 @@ use native.Mathlib.Decide.{dec_lt}
 use mathlib.Core.Path.{◌≡◌, sym, ◌∙◌, ap}
 use Rattle.dictionary.specs.declared.Found.{Found}
 use Rattle.dictionary.specs.Dictionary.{packed_at, found_of}
-use Rattle.dictionary.specs.Laws.{packed_order, at_place, no_place}
+use Rattle.dictionary.specs.Laws.{no_place}
+use Rattle.dictionary.proofs.InOrder.{packed_order, at_place}
 use Rattle.wordlist.specs.Inside.{Span}
 
 -- at the word, or beside it

@@ -1,0 +1,2 @@
+-- Laws of the dictionary as it is printed.
+pub mod InOrder

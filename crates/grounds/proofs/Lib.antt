@@ -1,0 +1,2 @@
+-- What rests on the rows of every call.
+pub mod CallsRefused

@@ -1,0 +1,2 @@
+-- Laws of the calls on tables.
+pub mod Outcomes
