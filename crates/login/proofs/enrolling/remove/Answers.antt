@@ -7,13 +7,13 @@ use lib.Dec.{eqb}
 use lib.ListN.{get_or, set}
 use Rattle.refusal.specs.declared.Refusal.{Refusal}
 use Rattle.refusal.specs.declared.Checked.{Checked}
-use Rattle.refusal.specs.Checks.{must}
+use Rattle.refusal.specs.Checks.{must, unless}
 use Rattle.line.specs.Line.{Waiting, empty}
 use Rattle.accounts.specs.Rooms.{free}
-use Rattle.table.specs.Table.{State, Held, free_room, view, with_line}
+use Rattle.table.specs.Table.{State, Held, free_room, view, with_line, with_room, place_of}
 use Rattle.table.specs.TableChecks.{account_there}
 use Rattle.table.specs.ViewLaws.{line_set}
-use Rattle.table.specs.Steps.{remove}
+use Rattle.table.specs.Steps.{After, done, refused, remove}
 use Rattle.login.proofs.enrolling.remove.Goals as goal
 use Rattle.login.proofs.enrolling.remove.Goals.{After-check_remove-answer}
 
@@ -29,12 +29,16 @@ checked c older =
     c.check_remove-answer.ensures
     ∙ ap (λ (held : Bool). must (not (eqb c.args.id 0) && held) Refusal.AccountMissing) (c.place_of-place.ensures older).1
 
+-- Remove, by what its check says.
+abbrev by_check : ℕ → State → Checked → After Checked
+by_check id s check = unless (refused s) check (done (with_room (place_of id s.rooms) free_room s))
+
 pub returns-in-Refused : goal.returns-in-Refused
 unfolding remove
 returns-in-Refused c older =
     let s = view c.args.table older in
     ap (λ (k : Checked). record { answer = k; state = s }) c.in-Refused.is
-    ∙ sym (ap (by-check c older) (sym (checked (goal.at.returns-in-Refused c).After-check_remove-answer older) ∙ c.in-Refused.is))
+    ∙ sym (ap (by_check c.args.id s) (sym (checked (goal.at.returns-in-Refused c).After-check_remove-answer older) ∙ c.in-Refused.is))
 
 pub returns : goal.returns
 unfolding remove
@@ -46,4 +50,4 @@ returns c older =
     ∙ freed s.rooms place (get_or s.rooms place free_room).line
     ∙ ap (λ (n : ℕ). set s.rooms n free_room) (c.place_of-place.ensures older).0 in
     (λ i. record { answer = c.in_default.is i; state = record { rooms = rooms i; ports = (c.put-next.ensures older i).ports } })
-    ∙ sym (ap (by-check c older) (sym (checked (goal.at.returns c).After-check_remove-answer older) ∙ c.in_default.is))
+    ∙ sym (ap (by_check c.args.id s) (sym (checked (goal.at.returns c).After-check_remove-answer older) ∙ c.in_default.is))
