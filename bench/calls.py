@@ -10,7 +10,7 @@ import bounds
 import harness
 import model
 
-METER = harness.ROOT / "target" / "bin" / "meter"
+METER = harness.program("meter")
 ROUNDS = 15
 # how many thousand times a call is repeated; a reading by itself, which is soon done, twenty times as often
 THOUSANDS, THOUSANDS_READ = 100, 2000
