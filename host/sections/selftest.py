@@ -50,16 +50,20 @@ def comparison_can_fail(driver):
 
 def refusals_can_fail(driver):
     """A wrong function that is let pass, or is refused for what it calls or for a proof's shape, is found."""
-    alone = "fn wordlist::word_at: not proved\n"
+    own = "fn wordlist::word_at: no proof: expected answers in ./proofs/word_at/Answers.antt; `search` did not prove `returns`"
+    calls = "it calls `wordlist::rows::row`, which is not proved\n"
+    alone = ["fn wordlist::word_at: not proved\n", f"{own}\n", f"{own}; {calls}"]
     said = [
         "fn wordlist::word_at: proved\n",
         "fn wordlist::place_of: not proved\n",
-        "fn wordlist::word_at: not proved; it calls `wordlist::rows::row`, which is not proved\n",
-        alone + "Proof.antt:13:23: error: `returns`: record `After-row` has no field `args`\n",
+        f"fn wordlist::word_at: not proved; {calls}",
+        f"fn wordlist::word_at: no proof: {calls}",
+        alone[0] + "Answers.antt:13:23: error: `returns`: record `row` has no field `args`\n",
+        alone[0] + "Answers.antt:2:5: error: module `Goals` has no `returns-in-At` that can be named\n",
     ]
     change = ("src/lib.rt", "words[place % 16]", "words[0]")
-    held = [lambda log=log: refused.refused_alone("wordlist", "an edit", log, [change]) for log in [alone, *said]]
-    found = [not fails(held[0]), *(fails(check) for check in held[1:]), *theorems_refused()]
+    held = [lambda log=log: refused.refused_alone("wordlist", "an edit", log, [change]) for log in [*alone, *said]]
+    found = [*(not fails(check) for check in held[:len(alone)]), *(fails(check) for check in held[len(alone):]), *theorems_refused()]
     if not all(found):
         raise Failed(f"of the {len(found)}, as they should be: {found}")
     return f"{len(found)} logs: a wrong function or theorem that is not refused by itself is reported, and nothing else"
@@ -68,11 +72,11 @@ def refusals_can_fail(driver):
 def theorems_refused():
     """Two theorems made wrong in one edit, of which each is refused; one isn't, or only for what it cites. A definition beside them, for which another
     theorem is refused, or none is; and two definitions."""
-    begins, in_line = ("specs/Demand3.antt", "TurnBegins p i 180 later", ""), ("specs/TablesMade.antt", "(s .rooms)) ≤ 4", "")
-    example, empty = ("specs/Examples.antt", "DUAL NUT", ""), ("specs/NoAccounts.antt", "answerWithout (Call.Remove id) =", "")
-    log = "".join(f"specs/A.antt:1:1: error: `{name}`: expected type\n" for name in ("turn-begins", "four-in-line"))
-    cited = "error: `four-in-line`: `turn-begins` was not admitted\n"
-    more = "error: `examples-hold`: differ\n"
+    begins, in_line = ("specs/Demand3.antt", "TurnBegins p i 180 later", ""), ("specs/TablesMade.antt", "s.rooms) ≤ 4", "")
+    example, empty = ("specs/Examples.antt", "DUAL NUT", ""), ("specs/NoAccounts.antt", "answer_without (Call.Remove id) =", "")
+    log = "".join(f"specs/A.antt:1:1: error: `{name}`: expected type\n" for name in ("turn_begins", "four_in_line"))
+    cited = "error: `four_in_line`: `turn_begins` was not admitted\n"
+    more = "error: `examples_hold`: differ\n"
 
     def held(said, *changes):
         return refused.said_wrong("demands", "an edit", said, [begins, in_line, *changes])
@@ -371,7 +375,7 @@ def coverage_can_fail(driver):
 
 def drawings():
     """A drawing that is true, and three that aren't: a use to the left, a crate drawn twice, one not drawn."""
-    crates = {"card": ["cards", "io"], "cards": ["text"], "text": []}
+    crates = {"card": ["cards", "check"], "cards": ["text"], "text": []}
     right = "What stands higher uses what stands below it:\n\n    card   a program\n    cards  text   the rest\n\n"
     wrong = [right.replace("cards  text", "text  cards"), right.replace("    card ", "    text  card "),
              right.replace("cards  text", "cards")]
@@ -382,7 +386,7 @@ def drawings():
 def imports():
     """A page all of whose imports are used, and three with one that isn't; a line of 160 characters, and one of 161."""
     page = pathlib.Path("Page.antt")
-    text = "use a.B.{one, _two_}\nuse a.C as c\n\nthree : one two c.x\nthree = one\n"
+    text = "use a.B.{one, ◌two◌}\nuse a.C as c\n\nthree : one two c.x\nthree = one\n"
     unused = [list(tidy.unused(page, each)) for each in
               (text, text.replace(" c.x", ""), text.replace(" two", ""), text.replace("one two", "ones two").replace("= one", "= 1"))]
     return [not unused[0], *map(bool, unused[1:]), not list(tidy.wide("x" * 160)), bool(list(tidy.wide("x\n" + "x" * 161)))]
@@ -440,7 +444,7 @@ def lists_can_fail(driver):
     text, sources = "```rust\nfn one() {}\n```\n", {"rust": ["fn two() {}\nfn one() {}\n"], "edit": []}
     quotations = [not fails(docs.quoted, text, sources), fails(docs.quoted, text.replace("one", "three"), sources),
                   fails(docs.quoted, text.replace("rust", "edit"), sources)]
-    crates = {"card": ["text", "io"], "text": ["refusal"], "refusal": [], "other": []}
+    crates = {"card": ["text", "check"], "text": ["refusal"], "refusal": [], "other": []}
     counts = [not fails(tools.counted, [("card", "3")], crates), fails(tools.counted, [("card", "4")], crates), fails(tools.counted, [], crates)]
     found = [*refusals(), *beliefs(), *quotations, *typing(), *counts]
     if not all(found):
