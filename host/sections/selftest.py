@@ -85,8 +85,22 @@ def theorems_refused():
             not fails(held, log + more, example), fails(held, log, example), fails(held, log + more, example, empty)]
 
 
+def runs_of_the_gate():
+    """What rt ci says of two crates and three edits, and of a program for which more is made than its sources have; then of an edit more, of a bad one, of
+    a crate that isn't proved, of a library with a function that no head was found for, of fewer functions than there are; and what is no end of a run."""
+    crates = {"table": 4, "card": 1}
+    said = ("== table\nfn table::fresh: proved\nlogic=proved functions=4 sum=0\nrt: table proved\n== card\nlogic=proved functions=2 axioms=8\n"
+            "rt: ok; handles allowed: none; must-fail edits: 3 refused; every proof and must-fail edit was done in this run\n5 passed, 0 failed\n")
+    kept = said[said.index("rt: ok"):]
+    wrong = [(said, 4), *((said.replace(*change), 3) for change in
+                          ((" refused;", " refused, 1 bad;"), ("5 passed, 0", "4 passed, 1"), ("functions=4", "functions=5"), ("functions=4", "functions=3"),
+                           ("functions=2", "functions=0"), ("failed\n", "failed\nmore\n"), ("rt: ok", "rt: note")))]
+    return [not fails(docs.whole_run, said, crates, 3), not fails(docs.whole_run, kept, crates, 3),
+            *(fails(docs.whole_run, text, crates, edits) for text, edits in wrong)]
+
+
 def gate_can_fail(driver):
-    """A flag that .ci/run has and the README has not, or the other way round, is found."""
+    """A flag that .ci/run has and the README has not, or the other way round, is found; so is a run of the gate that isn't as it should be."""
     readme = "## Test it\n\n```console\n$ make %stest\n```\n"
     run = "\n".join(["#!/usr/bin/env bash", *commands.TO_THE_TOP, "exec make test", ""])
     found = [
@@ -95,10 +109,11 @@ def gate_can_fail(driver):
         fails(commands.same_command, readme % "", run.replace("exec", "export MAKEFLAGS=-s\nexec")),
         fails(commands.same_command, readme % "-s ", run),
         fails(commands.same_command, readme % "", run + "true\n"),
+        *runs_of_the_gate(),
     ]
     if not all(found):
-        raise Failed(f"of the five, as they should be: {found}")
-    return f"{len(found)} pairs of commands: a flag in one of them is reported, and nothing else"
+        raise Failed(f"of the {len(found)}, as they should be: {found}")
+    return f"{len(found)} pairs of commands and runs: a flag in one of them, and what isn't so of a run, is reported, and nothing else"
 
 
 def without_each(check, whole):
