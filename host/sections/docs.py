@@ -6,7 +6,9 @@ import tidy
 from harness import ROOT, Failed, run, typed
 from sections import house, refused
 
-DOCUMENTS = [ROOT / "README.md", *sorted((ROOT / "docs").glob("*.md"))]
+# the page of the move to today's Rattle, which names commands that are gone and has code as it was
+OF_THE_MOVE = {"PORT.md"}
+DOCUMENTS = [ROOT / "README.md", *(path for path in sorted((ROOT / "docs").glob("*.md")) if path.name not in OF_THE_MOVE)]
 # Not run from here: this test is part of it.
 GATE = "make test"
 
