@@ -147,10 +147,11 @@ def handed_on():
 
 
 def determined():
-    """Each public function has its theorem that its promise determines its results."""
+    """Each public function has its theorem that its promise determines its results: of what its callers learn, or of its contract."""
     cited = set()
     for path in DETERMINED.glob("*.antt"):
-        cited |= set(re.findall(r"^use Rattle\.([\w.]+?)(?:\.Reads)? as", path.read_text(), re.M))
+        for found in re.findall(r"^use Rattle\.([\w.]+?)(?:\.Reads)? as", path.read_text(), re.M):
+            cited.add(found.replace(".specs.contracts.", ".proofs."))
     names = set(public())
     for name in sorted(names):
         crate, *inside, function = name.split("::")
