@@ -4,7 +4,7 @@ import subprocess
 
 import harness
 import model
-from harness import ROOT, Failed, call
+from harness import Failed, call
 from sections.challenges import NAMES, any_challenge, good_opening
 from sections.passwords import any_phrase
 
