@@ -18,8 +18,9 @@ test:
 	$(call needs,rt gcc python3)
 	@set -euo pipefail; \
 	said=$$(mktemp); trap 'rm -f "$$said"' EXIT; \
-	rt ci | tee "$$said"; \
+	status=0; rt ci | tee "$$said" || status=$$?; \
 	mkdir -p "$(dir $(CI_LOG))"; cp "$$said" "$(CI_LOG)"; \
+	[ $$status -eq 0 ] || exit $$status; \
 	grep -q '^rt: ok' "$$said" || { echo "make test: rt ci has no line 'rt: ok'" >&2; exit 1; }; \
 	! grep -E '^rt: ok.*, [0-9]+ bad' "$$said" >&2 || { echo 'make test: must-fail edits are bad' >&2; exit 1; }; \
 	python3 host/test.py; \
