@@ -69,9 +69,9 @@ def other_names():
 
 
 def theorems():
-    """The theorems of the sentences of the letter and of the documents."""
+    """The theorems of the sentences of the letter and of the documents. Those that rest on what an edit of a definition turns stand among the proofs."""
     stated = set()
-    for path in CRATES.glob("*/specs/**/*.antt"):
+    for path in [*CRATES.glob("*/specs/**/*.antt"), *CRATES.glob("*/proofs/*.antt")]:
         stated |= set(re.findall(r"^\s*pub ([\w-]+)(?: \{[^}]*\})? :", path.read_text(), re.M))
     names = {name for heading in PAPERS for cells in section(heading)
              for name in re.findall(r"`([a-z\d]+(?:[_-][a-z\d]+)+)`", cells[1])} - (other_names() - stated)
@@ -97,7 +97,7 @@ def pages():
     names = {pair for heading in PAPERS for cells in section(heading)
              for pair in re.findall(r"`(\w+)` ([A-Z]\w+)", cells[1])}
     for crate, page in sorted(names):
-        if not (CRATES / crate / "specs" / f"{page}.antt").is_file():
+        if not any((CRATES / crate / part / f"{page}.antt").is_file() for part in ("specs", "proofs")):
             raise Failed(f"no such file: {page} of {crate}")
     return len(names)
 
