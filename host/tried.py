@@ -4,6 +4,10 @@
 down in what the prover says. So each edit is tried once more, by `rt check` on a copy of the repository outside this one, as many at a time as there are
 processors and memory. What was said comes to lie in target/must-fail/CRATE/EDIT.log. It is kept beside that for this user of the machine, by the checksum
 of all that such a check reads, as `rt ci` keeps what it passed: an edit is tried again once its text, its crate, a crate below or the kit has changed.
+
+The prover names a step by the code's own words, as `then-count-gt9999`. Where an edit words a condition otherwise, the answers to that function's goals
+cite names that are gone, which says nothing of what the function promises. So the names are brought after the edit in the copy, as
+`then-count-gt10000`, and the check is made once more: the answers are then refused for what they say, or not at all.
 """
 import concurrent.futures
 import functools
@@ -11,6 +15,7 @@ import hashlib
 import os
 import pathlib
 import queue
+import re
 import shutil
 import subprocess
 import sys
@@ -27,6 +32,11 @@ LOGS = ROOT / "target" / "must-fail"
 KEPT = pathlib.Path(os.environ.get("XDG_CACHE_HOME") or pathlib.Path.home() / ".cache") / "glimmerhaugh" / "must-fail"
 # what a check may take of the memory, in bytes, and how long one may last
 MEMORY, SECONDS = 4 << 30, 1800
+# what the prover says of a function's answers that cite a goal which is gone, and which goals there are
+LACKING = re.compile(r"module `Rattle\.\w+\.proofs\.([\w.]+)\.Goals` has no `([\w-]+)`")
+ASKED = re.compile(r"^help: `Goals` has no `([\w-]+)`; rattle asks for (.*?)(?: and \d+ more)?;", re.M)
+# a goal in a branch, by the condition's words
+BRANCH = re.compile(r"(.*(?:then|else)-)(.+)")
 
 
 @functools.cache
@@ -57,7 +67,7 @@ def under(crate, crates):
 def key_of(crate, changes):
     """A checksum of all that a check of the crate with an edit reads."""
     crates = house.listed()
-    texts = [kit(), repr(changes), *(f"{name} {crates[name]} {sum_of(name)}" for name in sorted(under(crate, crates)))]
+    texts = [kit(), pathlib.Path(__file__).read_text(), repr(changes), *(f"{name} {crates[name]} {sum_of(name)}" for name in sorted(under(crate, crates)))]
     return hashlib.sha256("\n".join(texts).encode()).hexdigest()
 
 
@@ -94,11 +104,39 @@ def edited(folder, crate, changes):
     return before
 
 
+def likest(words, goals, text):
+    """The words of the branch that stands where one with these words stood: of one goal of these, which the answers don't cite."""
+    begun, old = BRANCH.fullmatch(words).groups()
+    new = [goal.removeprefix(begun) for goal in goals if goal.startswith(begun) and f"-{goal.removeprefix(begun)}" not in text]
+    return old, min(new, key=lambda each: (abs(each.count("-") - old.count("-")), sum(part not in old.split("-") for part in each.split("-"))), default=None)
+
+
+def names_after(folder, crate, said):
+    """Brings the names of branches in the proofs of functions after the edit. Hands back what the files had, and which names are others now."""
+    asked, before, names = dict(ASKED.findall(said)), {}, []
+    for place, goal in sorted(set(LACKING.findall(said))):
+        paths = sorted((folder / "crates" / crate / "proofs" / place.replace(".", "/")).glob("*.antt"))
+        if not BRANCH.fullmatch(goal) or goal not in asked:
+            continue
+        old, new = likest(goal, re.findall(r"`([\w-]+)`", asked[goal]), "".join(path.read_text() for path in paths))
+        if new:
+            names.append(f"{place}: {old} is {new}")
+            for path in paths:
+                before.setdefault(path, path.read_text())
+                path.write_text(re.sub(rf"\b((?:[Tt]hen|[Ee]lse|if)-){re.escape(old)}(?![\w])", rf"\g<1>{new}", path.read_text()))
+    return before, names
+
+
 def log_of(folder, crate, changes):
     """What the prover says of the crate with the edit. A check that is no verdict is an error."""
     before = edited(folder, crate, changes)
     try:
         said, status = check(folder, crate)
+        more, names = names_after(folder, crate, said)
+        before.update(more)
+        if names:
+            said, status = check(folder, crate)
+            said = "".join(f"names after the edit, {each}\n" for each in names) + said
     finally:
         for path, text in before.items():
             path.write_text(text)
