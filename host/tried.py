@@ -30,13 +30,16 @@ from sections import house  # noqa: E402
 PARTS = ("src", "specs", "proofs")
 LOGS = ROOT / "target" / "must-fail"
 KEPT = pathlib.Path(os.environ.get("XDG_CACHE_HOME") or pathlib.Path.home() / ".cache") / "glimmerhaugh" / "must-fail"
+# another one, where this file comes to try edits otherwise
+FORM = "names of branches and steps after the edit"
 # what a check may take of the memory, in bytes, and how long one may last
 MEMORY, SECONDS = 4 << 30, 1800
-# what the prover says of a function's answers that cite a goal which is gone, and which goals there are
+# what the prover says of a function's answers that cite a goal which is gone, and which goals there are; and of a step that is gone
 LACKING = re.compile(r"module `Rattle\.\w+\.proofs\.([\w.]+)\.Goals` has no `([\w-]+)`")
 ASKED = re.compile(r"^help: `Goals` has no `([\w-]+)`; rattle asks for (.*?)(?: and \d+ more)?;", re.M)
-# a goal in a branch, by the condition's words
-BRANCH = re.compile(r"(.*(?:then|else)-)(.+)")
+STEPS = re.compile(r"^\./proofs/(\S+)/\w+\.antt:\d+:\d+: error: .*record `[^`]*` has no field `([\w-]+)` \(nearest: (.*)\)$", re.M)
+# a goal in a branch, or a step into one, by the condition's words
+BRANCH = re.compile(r"(.*(?:then|else)-|if-)(.+)")
 
 
 @functools.cache
@@ -67,7 +70,7 @@ def under(crate, crates):
 def key_of(crate, changes):
     """A checksum of all that a check of the crate with an edit reads."""
     crates = house.listed()
-    texts = [kit(), pathlib.Path(__file__).read_text(), repr(changes), *(f"{name} {crates[name]} {sum_of(name)}" for name in sorted(under(crate, crates)))]
+    texts = [kit(), FORM, repr(changes), *(f"{name} {crates[name]} {sum_of(name)}" for name in sorted(under(crate, crates)))]
     return hashlib.sha256("\n".join(texts).encode()).hexdigest()
 
 
@@ -104,26 +107,37 @@ def edited(folder, crate, changes):
     return before
 
 
-def likest(words, goals, text):
-    """The words of the branch that stands where one with these words stood: of one goal of these, which the answers don't cite."""
-    begun, old = BRANCH.fullmatch(words).groups()
-    new = [goal.removeprefix(begun) for goal in goals if goal.startswith(begun) and f"-{goal.removeprefix(begun)}" not in text]
-    return old, min(new, key=lambda each: (abs(each.count("-") - old.count("-")), sum(part not in old.split("-") for part in each.split("-"))), default=None)
+def gone(said):
+    """The names in the proofs of functions that are gone with an edit: the function's folder, the name, and those that are there."""
+    asked = dict(ASKED.findall(said))
+    found = [(place.replace(".", "/"), goal, re.findall(r"`([\w-]+)`", asked.get(goal, ""))) for place, goal in LACKING.findall(said)]
+    return found + [(place, step, re.findall(r"\.([\w-]+)", nearest)) for place, step, nearest in STEPS.findall(said)]
+
+
+def likest(name, there, text):
+    """What a name that is gone is called now, as what to look for and what to put there: a branch, or another step; none, where nothing is like it. What
+    the text cites already is something else."""
+    branch = BRANCH.fullmatch(name)
+    begun, old = branch.groups() if branch else ("", name)
+    new = [each.removeprefix(begun) for each in there if each.startswith(begun) and not re.search(rf"[-.]{re.escape(each.removeprefix(begun))}(?![\w-])", text)]
+    if not branch:
+        new = [each for each in new if each.startswith(f"{old}-")]
+    best = min(new, key=lambda each: (abs(each.count("-") - old.count("-")), sum(part not in old.split("-") for part in each.split("-"))), default=None)
+    before = r"\b(?:[Tt]hen|[Ee]lse|if)-" if branch else r"\."
+    return best and (rf"({before}){re.escape(old)}(?![\w{'' if branch else '-'}])", rf"\g<1>{best}", f"{old} is {best}")
 
 
 def names_after(folder, crate, said):
-    """Brings the names of branches in the proofs of functions after the edit. Hands back what the files had, and which names are others now."""
-    asked, before, names = dict(ASKED.findall(said)), {}, []
-    for place, goal in sorted(set(LACKING.findall(said))):
-        paths = sorted((folder / "crates" / crate / "proofs" / place.replace(".", "/")).glob("*.antt"))
-        if not BRANCH.fullmatch(goal) or goal not in asked:
-            continue
-        old, new = likest(goal, re.findall(r"`([\w-]+)`", asked[goal]), "".join(path.read_text() for path in paths))
-        if new:
-            names.append(f"{place}: {old} is {new}")
+    """Brings the names of steps in the proofs of functions after the edit. Hands back what the files had, and which names are others now."""
+    before, names = {}, []
+    for place, name, there in gone(said):
+        paths = sorted((folder / "crates" / crate / "proofs" / place).glob("*.antt"))
+        found = likest(name, there, "".join(path.read_text() for path in paths))
+        if found and f"{place}: {found[2]}" not in names:
+            names.append(f"{place}: {found[2]}")
             for path in paths:
                 before.setdefault(path, path.read_text())
-                path.write_text(re.sub(rf"\b((?:[Tt]hen|[Ee]lse|if)-){re.escape(old)}(?![\w])", rf"\g<1>{new}", path.read_text()))
+                path.write_text(re.sub(found[0], found[1], path.read_text()))
     return before, names
 
 
