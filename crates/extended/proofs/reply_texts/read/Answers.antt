@@ -1,5 +1,4 @@
 -- `read` meets its promise: 30 over 256 bytes; plain without a colon; else 34, 35, and behind them what the text says.
-use borrow.Author.Rules.{rules}
 use borrow.Author.Tests.{eq-eqb, ne_eqb, le-leb, lt-leb, lt-ltb}
 use Prim.Native.Nat.{ℕ, ◌≤◌, ◌<◌}
 use mathlib.Core.Path.{◌≡◌, sym, ◌∙◌, ap}
@@ -18,8 +17,8 @@ use Rattle.extended.specs.declared.reply_texts.ReplyText.{ReplyText}
 use Rattle.extended.specs.ReplyTypes.{typed}
 use Rattle.extended.specs.ReplyTexts.{part_at, colons, colons_of, Said, typed_in, layout_checked, extended_of, said_in, read_to, reply_text_of}
 use Rattle.extended.specs.Inside.{few_colons, few_colons_lem}
-use Rattle.extended.proofs.reply_texts.read.Statement.{statement}
-use Rattle.extended.proofs.reply_texts.read.Tie as tie
+use Rattle.extended.proofs.reply_texts.read.Goals as goal
+use Rattle.extended.proofs.reply_texts.read.Goals.{After-read_type, Else-found-eq0}
 
 module _ (text : List ℕ) where
   -- With a colon or without.
@@ -50,7 +49,6 @@ module _ (text : List ℕ) where
         unfolding said_in extended_of layout_checked
         laid_out f = rw (ne_eqb (colons text) 0 colon, le-leb (length text) 256 h, e, eq-eqb (colons text) (colons_of kind) f)
 
--- No type has more than three colons.
 at_most_3 : (kind : ReplyType) → colons_of kind ≤ 3
 at_most_3 ReplyType.Hex = omega arith
 at_most_3 ReplyType.Word = omega arith
@@ -60,77 +58,40 @@ at_most_3 ReplyType.InitWord = omega arith
 of_type_lem : (s : List ℕ) (kind : ReplyType) → (few_colons s ≡ colons_of kind) ↔ (colons s ≡ colons_of kind)
 of_type_lem s kind = few_colons_lem s (colons_of kind) (at_most_3 kind)
 
-abbrev text : tie.After-colons → List ℕ
-text c = c.before.before.before.args.text.now
+some : (c : Else-found-eq0) → colons c.args.text.now ≡ 0 → ⊥
+some c e = c.if-found-eq0.false (c.colons-found.ensures ∙ (few_colons_lem c.args.text.now 0 (omega arith)).1 e)
 
-some : (c : tie.Else2) → colons (text c.before) ≡ 0 → ⊥
-some c e = c.if2.false (c.before.colons.ensures ∙ (few_colons_lem (text c.before) 0 (omega arith)).1 e)
+few : (c : Else-found-eq0) → length c.args.text.now ≤ 256
+few c = c.if-text-gt256.false
 
-few : (c : tie.Else2) → length (text c.before) ≤ 256
-few c = c.before.before.if1.false
+known : (c : After-read_type) → c.read_type.result ≡ typed (part_at c.args.text.now 0)
+known c = c.read_type.ensures ∙ ap typed c.part.ensures
 
-known : (c : tie.After-read-type) → c.read-type.result ≡ typed (part_at (text c.before.before.before) 0)
-known c = c.read-type.ensures ∙ ap typed c.before.part.ensures
-
-returns : tie.Need-returns
+pub returns-then-text-gt256 : goal.returns-then-text-gt256
 unfolding reply_text_of
-returns c = long c.before.before.args.text.now c.if1.true
+returns-then-text-gt256 c = long c.args.text.now c.if-text-gt256.true
 
-returns-2 : tie.Need-returns-2
+pub returns-then-found-eq0 : goal.returns-then-found-eq0
 unfolding reply_text_of
-returns-2 c =
-    let told = c.before in
-    let then2 = told.before in
-    c.login-of.ensures
-    ∙ ap (λ (r : Reading). read_to (Said.Login r)) told.read.ensures
-    ∙ ap read_to (plain (text then2.before) ((few_colons_lem (text then2.before) 0 (omega arith)).0 (sym then2.before.colons.ensures ∙ then2.if2.true)))
+returns-then-found-eq0 c =
+    c.login_of.ensures
+    ∙ ap (λ (r : Reading). read_to (Said.Login r)) c.read.ensures
+    ∙ ap read_to (plain c.args.text.now ((few_colons_lem c.args.text.now 0 (omega arith)).0 (sym c.colons-found.ensures ∙ c.if-found-eq0.true)))
 
-returns-3 : tie.Need-returns-3
+pub returns-in_default : goal.returns-in_default
 unfolding reply_text_of
-returns-3 c =
-    let named = c.before.before in
-    let else2 = named.before.before in
-    ap read_to (untyped (text else2.before) (some else2) (few else2) (sym (known named) ∙ c.enum_told.given.1))
+returns-in_default c =
+    ap read_to (untyped c.args.text.now (some (goal.at.returns-in_default c).Else-found-eq0) (few (goal.at.returns-in_default c).Else-found-eq0) (sym (known (goal.at.returns-in_default c).After-read_type) ∙ c.in_default.is))
 
-returns-4 : tie.Need-returns-4
+pub returns-then-found-colons_of : goal.returns-then-found-colons_of
 unfolding reply_text_of
-returns-4 c =
-    let counted = c.before in
-    let kind = counted.before.before in
-    let named = kind.before.before in
-    let else2 = named.before.before in
-    let count = else2.before in
-    ap read_to (misparted (text count) (some else2) (few else2) _ (sym (known named) ∙ kind.kind.given.1)
-    (λ e. c.if3.true (count.colons.ensures ∙ (of_type_lem (text count) kind.kind.given.0.0).1 e ∙ sym counted.colons-of.ensures)))
+returns-then-found-colons_of c =
+    ap read_to (misparted c.args.text.now (some (goal.at.returns-then-found-colons_of c).Else-found-eq0) (few (goal.at.returns-then-found-colons_of c).Else-found-eq0) _ (sym (known (goal.at.returns-then-found-colons_of c).After-read_type) ∙ c.in-Is.is)
+    (λ e. c.if-found-colons_of.true (c.colons-found.ensures ∙ (of_type_lem c.args.text.now c.in-Is.kind).1 e ∙ sym c.colons_of.ensures)))
 
-returns-5 : tie.Need-returns-5
+pub returns : goal.returns
 unfolding reply_text_of
-returns-5 c =
-    let else3 = c.before in
-    let counted = else3.before in
-    let kind = counted.before.before in
-    let named = kind.before.before in
-    let else2 = named.before.before in
-    let count = else2.before in
-    c.typed-in.ensures
-    ∙ ap read_to (laid_out (text count) (some else2) (few else2) _ (sym (known named) ∙ kind.kind.given.1)
-    ((of_type_lem (text count) kind.kind.given.0.0).0 (sym count.colons.ensures ∙ else3.if3.false ∙ counted.colons-of.ensures)))
-
-pub read_spec : {M : Type 1} → statement M
-read_spec =
-    tie.close
-    (tie.spec
-    returns
-    (λ c κs. search rules)
-    (λ c κs. search rules)
-    (λ c κs. search rules)
-    returns-2
-    (λ c κs. search rules)
-    (λ c κs. search rules)
-    (λ c. search rules)
-    (λ c. search rules)
-    returns-3
-    (λ c κs. search rules)
-    returns-4
-    (λ c κs. search rules)
-    returns-5)
+returns c =
+    c.typed_in.ensures
+    ∙ ap read_to (laid_out c.args.text.now (some (goal.at.returns c).Else-found-eq0) (few (goal.at.returns c).Else-found-eq0) _ (sym (known (goal.at.returns c).After-read_type) ∙ c.in-Is.is)
+    ((of_type_lem c.args.text.now c.in-Is.kind).0 (sym c.colons-found.ensures ∙ c.if-found-colons_of.false ∙ c.colons_of.ensures)))

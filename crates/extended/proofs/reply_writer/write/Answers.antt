@@ -3,7 +3,6 @@ use Prim.Native.Nat.{ℕ, ◌≤◌}
 use mathlib.Core.Path.{◌≡◌, refl, sym, ap, ◌∙◌, subst}
 use mathlib.Core.Bool.{Bool, true, cond}
 use mathlib.Core.List.{List}
-use borrow.Author.Rules.{rules}
 use lib.ListN.{length}
 use Rattle.refusal.specs.declared.Refusal.{Refusal}
 use Rattle.refusal.specs.declared.Checked.{Checked}
@@ -20,8 +19,7 @@ use Rattle.extended.specs.declared.reply_types.Typed.{Typed}
 use Rattle.extended.specs.ReplyTypes.{type_numbered, type_checked, type_in, is_init}
 use Rattle.extended.specs.ReplyWriting.{extended_text, renewal_checked, extended_written, text_by_numbers}
 use Rattle.extended.specs.ReplyWritingLaws.{good_values}
-use Rattle.extended.proofs.reply_writer.write.Statement.{statement}
-use Rattle.extended.proofs.reply_writer.write.Tie as tie
+use Rattle.extended.proofs.reply_writer.write.Goals as goal
 
 module _ (type password number count : ℕ) (seed : List ℕ) (new : ℕ) where
   unknown : (room : ℕ) → type_numbered type ≡ Typed.Unknown → Written.Refused Refusal.TypeUnknown ≡ extended_written type password number count seed new room
@@ -54,7 +52,6 @@ module _ (type password number count : ℕ) (seed : List ℕ) (new : ℕ) where
         let v = subst (λ (x : Algorithm). Writes (extended_text kind password x count seed new) b b' r) e w in
         (v.0 ∙ first_good Written.Refused (renewal_checked kind number count seed) _ good, v.1)
 
--- the seed of good values has at most 16 bytes
 seed_few : (kind : ReplyType) (number count : ℕ) (seed : List ℕ) → renewal_checked kind number count seed ≡ Checked.Good → is_init kind ≡ true
     → length seed ≤ 16
 unfolding renewal_checked
@@ -62,51 +59,28 @@ seed_few kind number count seed good e =
     let new = sym (ap (λ (b : Bool). cond b (new_checked number count seed) Checked.Good) e) ∙ good in
     (good_seed seed (good_values number count seed new).2).1
 
-returns : tie.Need-returns
+pub returns-in_default : goal.returns-in_default
+returns-in_default c =
+    record { answered = unknown _ _ _ _ _ _ _ (sym c.type_numbered.ensures ∙ c.in_default.is); left = refl }
+
+pub returns-in-Refused : goal.returns-in-Refused
+returns-in-Refused c =
+    let a = c.args in
+    let both = by_type a.kind a.password a.algorithm a.count a.seed.now a.new a.buf.now _ _ _
+    (sym c.type_numbered.ensures ∙ c.in-Is.is)
+    (first_refused Written.Refused _ _ _ (sym c.check_renewal.ensures ∙ c.in-Refused.is), refl) in
+    record { answered = both.0; left = both.1 }
+
+pub write_text-requires : goal.write_text-requires
+write_text-requires c =
+    let a = c.args in
+    seed_few _ a.algorithm a.count a.seed.now (sym c.check_renewal.ensures ∙ c.in_default-check_renewal.is)
+
+pub returns : goal.returns
 returns c =
-    let numbered = c.before.before in
-    (unknown _ _ _ _ _ _ _ (sym numbered.type-numbered.ensures ∙ c.enum_told.given.1), refl)
-
-returns-2 : tie.Need-returns-2
-returns-2 c =
-    let checked = c.before.before.before in
-    let told = checked.before.before in
-    let a = told.before.before.before.before.before.args in
-    by_type a.kind a.password a.algorithm a.count a.seed.now a.new a.buf.now _ _ _
-    (sym told.before.before.type-numbered.ensures ∙ told.known.given.1)
-    (first_refused Written.Refused _ _ _ (sym checked.check-renewal.ensures ∙ c.before.why.given.1), refl)
-
-write-text-requires : tie.Need-write-text-requires
-write-text-requires c κs =
-    let good = c.before.before in
-    let a = good.before.before.before.before.before.before.before.before.before.args in
-    seed_few _ a.algorithm a.count a.seed.now (sym good.before.before.check-renewal.ensures ∙ good.enum-told2.given.1)
-
-returns-3 : tie.Need-returns-3
-returns-3 c =
-    let call = c.before.before in
-    let algorithm = call.before.before in
-    let good = algorithm.before in
-    let told = good.before.before.before.before in
-    let a = told.before.before.before.before.before.args in
-    by_type a.kind a.password a.algorithm a.count a.seed.now a.new a.buf.now _ _ _
-    (sym told.before.before.type-numbered.ensures ∙ told.known.given.1)
+    let a = c.args in
+    let both = by_type a.kind a.password a.algorithm a.count a.seed.now a.new a.buf.now _ _ _
+    (sym c.type_numbered.ensures ∙ c.in-Is.is)
     (by_good a.kind a.password a.algorithm a.count a.seed.now a.new a.buf.now _ _ _ _
-    (sym good.before.before.check-renewal.ensures ∙ good.enum-told2.given.1) algorithm.algorithm-in.ensures call.write-text.ensures)
-
-pub write_spec : {M : Type 1} → statement M
-write_spec =
-    tie.close
-    (tie.spec
-    (λ c κs. search rules)
-    (λ c. search rules)
-    (λ c. search rules)
-    returns
-    (λ c κs. search rules)
-    (λ c. search rules)
-    returns-2
-    (λ c. search rules)
-    (λ c κs. search rules)
-    write-text-requires
-    (λ c. search rules)
-    returns-3)
+    (sym c.check_renewal.ensures ∙ c.in_default-check_renewal.is) c.algorithm_in.ensures c.write_text.ensures) in
+    record { answered = both.0; left = both.1 }
