@@ -1,5 +1,6 @@
 // Reads a pass-phrase, a challenge and a number of lines from standard input, and prints the card or why there is none.
 #![tactic(auto)]
+
 ghost use Rattle.std.specs.Prelude.{◌≤◌, IfOk, length};
 
 use std::io;

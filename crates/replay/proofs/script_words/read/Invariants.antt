@@ -4,10 +4,13 @@ use Rattle.replay.proofs.WordPlaces.{Inside}
 use Rattle.replay.proofs.script_words.read.Given as goal
 
 abbrev pub invariant-loop-k : goal.invariant-loop-k
-invariant-loop-k l = (l.k ≤ l.n)
+invariant-loop-k l =
+    (l.k ≤ l.n)
     × (l.n ≤ 7)
     × (length l.line ≡ length l.initial.line)
     × (l.at ≤ length l.line)
+    × (length l.starts ≡ 7)
+    × (length l.ends ≡ 7)
     × Inside l.starts l.ends (length l.initial.line)
 
 abbrev pub decreases-loop-k : goal.decreases-loop-k
