@@ -2,16 +2,15 @@
 use Prim.Native.Nat.{ℕ, ◌≤◌}
 use mathlib.Core.Path.{◌≡◌, refl, sym, ◌∙◌, ap, subst}
 use mathlib.Core.List.{List}
-use mathlib.Core.Logic.{⊎_elim}
 use native.Mathlib.Omega.{arith}
 use lib.ListN.{length}
 use Rattle.refusal.specs.declared.Written.{Written}
 use Rattle.text.specs.Put.{Writes, leaves}
-use Rattle.text.specs.PutLaws.{has_room, length_front}
+use Rattle.text.specs.PutLaws.{has_room, length_front, wrote_put}
 use Rattle.extended.specs.ReplyWriting.{password_text}
 use Rattle.extended.specs.ReplyWritingLaws.{password_hex, password_words, password_few}
 use Rattle.extended.proofs.reply_writer.put_password.Goals as goal
-use Rattle.extended.proofs.reply_writer.put_password.Goals.{Joined-is_hex}
+use Rattle.extended.proofs.reply_writer.put_password.Goals.{Joined-is_hex, then-is_hex, else-is_hex}
 
 arm : (t u b b₁ b' : List ℕ) (r r' : Written) → t ≡ u → Writes u b b₁ r → b' ≡ b₁ → r' ≡ r → Writes t b b' r'
 arm t u b b₁ b' r r' e w same answer =
@@ -23,10 +22,10 @@ written : (c : Joined-is_hex) →
     Writes (password_text a.kind a.password) a.buf.now c.if-is_hex.buf c.if-is_hex.written
 written c =
     let a = c.args in
-    ⊎_elim
-    (λ w. arm _ _ a.buf.now _ _ _ _ (password_hex a.kind a.password (sym c.is_hex.ensures ∙ w.0.taken)) w.2.ensures w.5 w.6)
-    (λ w. arm _ _ a.buf.now _ _ _ _ (password_words a.kind a.password (sym c.is_hex.ensures ∙ w.0.left)) w.2.ensures w.5 w.6)
-    c.if-is_hex.branch
+    elim c.if-is_hex.branch [
+      then-is_hex w ↦ arm _ _ a.buf.now _ _ _ _ (password_hex a.kind a.password (sym c.is_hex.ensures ∙ w.if-is_hex.true)) w.write_hex-written.ensures w.buf-is w.written-is
+    | else-is_hex w ↦ arm _ _ a.buf.now _ _ _ _ (password_words a.kind a.password (sym c.is_hex.ensures ∙ w.if-is_hex.false)) w.write_words-written.ensures w.buf-is w.written-is
+    ]
 
 long : (r : Written) (t b : List ℕ) → length t ≤ length b → length (leaves r t b) ≡ length b
 long (Written.Wrote n) t b h = length_front t b h
@@ -45,4 +44,8 @@ returns-in_default c =
     (subst (Writes text a.buf.now c.if-is_hex.buf) c.in_default.is (written (goal.at.returns-in_default c).Joined-is_hex)))
 
 pub returns : goal.returns
-returns c = as_long (goal.at.returns c).Joined-is_hex
+returns c =
+    let a = c.args in
+    let text = password_text a.kind a.password in
+    wrote_put text a.buf.now _ _
+    (subst (Writes text a.buf.now c.if-is_hex.buf) c.in-Wrote.is (written (goal.at.returns c).Joined-is_hex))

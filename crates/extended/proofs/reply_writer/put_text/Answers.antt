@@ -4,6 +4,7 @@ use mathlib.Core.Path.{◌≡◌, sym, ◌∙◌, ap}
 use mathlib.Core.Bool.{Bool, true, false, cond}
 use mathlib.Core.List.{List, [], ◌∷◌, ◌++◌, append_assoc}
 use native.Mathlib.Omega.{arith}
+use Rattle.std.proofs.Common.{length-take, length-drop}
 use Rattle.text.specs.Put.{Put}
 use Rattle.text.specs.PutLaws.{then_put, front_within}
 use Rattle.password.specs.declared.algorithm.Algorithm.{Algorithm}
@@ -53,3 +54,6 @@ returns c =
     let a = c.args in
     rw (by_init a.kind false a.password a.algorithm a.count a.seed.now a.new (sym c.is_init.ensures ∙ c.if-is_init.false)) at
     (login_put (goal.at.returns c).After-is_init)
+
+pub copy-requires : goal.copy-requires
+copy-requires c = simp (length-take, length-drop) (omega (arith, front_within, login_few c.args.kind c.args.password))
