@@ -27,5 +27,8 @@ returns-in-Card c =
 
 pub returns-in-Refused : goal.returns-in-Refused
 returns-in-Refused c =
-    let a = c.args in record { answered = refused a.phrase.now a.challenge.now a.lines (length a.buf.now) _
-          (asked_refused a.phrase.now a.challenge.now a.lines _ (sym c.card_asked.ensures ∙ c.in-Refused.is)); left = refl }
+    let a = c.args in record {
+      answered = refused a.phrase.now a.challenge.now a.lines (length a.buf.now) _
+          (asked_refused a.phrase.now a.challenge.now a.lines _ (sym c.card_asked.ensures ∙ c.in-Refused.is));
+      left = refl;
+    }

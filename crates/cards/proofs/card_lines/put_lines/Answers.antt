@@ -66,4 +66,3 @@ loop-i-preserved c =
           (then_put (card_text (password_at a.ps.now a.n) a.n loop.i) (line_of (a.n - loop.i) (get_or a.ps.now loop.i 0)) a.buf.now _ _ _ _
           loop.invariant.2 c.put_line-at.ensures),
     )
-

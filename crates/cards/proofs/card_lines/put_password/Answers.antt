@@ -11,4 +11,3 @@ use Rattle.cards.proofs.card_lines.put_password.Goals as goal
 pub put_words_newline-requires : goal.put_words_newline-requires
 put_words_newline-requires c = let p = c.args.p in
     omega (arith, length-append (hex_of p) (32 ∷ []), hex_length p)
-

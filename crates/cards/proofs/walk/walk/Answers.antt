@@ -12,9 +12,8 @@ long c = omega arith
 
 pub loop-i-preserved : goal.loop-i-preserved
 loop-i-preserved c = (
-      omega arith,
-      simp length-set c.loop-i.invariant.1,
-      one_more _ _ _ c.loop-i.ps _ _ _ c.loop-i.invariant.0 (long (goal.at.loop-i-preserved c).After-step-x)
-          c.loop-i-test.true c.step-x.ensures c.loop-i.invariant.2,
-    )
-
+  omega arith,
+  simp length-set c.loop-i.invariant.1,
+  one_more _ _ _ c.loop-i.ps _ _ _ c.loop-i.invariant.0 (long (goal.at.loop-i-preserved c).After-step-x)
+      c.loop-i-test.true c.step-x.ensures c.loop-i.invariant.2,
+)

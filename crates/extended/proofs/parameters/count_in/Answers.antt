@@ -33,4 +33,3 @@ known c =
 
 pub overflow_cast-result : goal.overflow_cast-result
 overflow_cast-result c = omega (arith, known (goal.at.overflow_cast-result c).In-Is, low c.args.word.now)
-

@@ -35,9 +35,9 @@ login_put c = c.put_login-a.ensures
 
 pub put_values_new-requires : goal.put_values_new-requires
 put_values_new-requires c = let a = c.args in (
-      c.requires.seed_len_bound (sym c.is_init.ensures ∙ c.if-is_init.true),
-      omega (arith, front_within, login_few a.kind a.password),
-    )
+  c.requires.seed_len_bound (sym c.is_init.ensures ∙ c.if-is_init.true),
+  omega (arith, front_within, login_few a.kind a.password),
+)
 
 pub returns-then-is_init : goal.returns-then-is_init
 returns-then-is_init c =

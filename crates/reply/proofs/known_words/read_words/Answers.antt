@@ -27,15 +27,14 @@ marked-marks-requires c =
     marks_few c.args.words c.loop-k.places c.loop-k.marks c.loop-k.k (omega (arith, c.loop-k.invariant.1)) c.loop-k.invariant.3
 
 pub loop-k-preserved : goal.loop-k-preserved
-loop-k-preserved c =
-    (
-      omega arith,
-      c.loop-k.invariant.1,
-      simp length-set c.loop-k.invariant.2,
-      one_more c.args.words c.loop-k.places c.loop-k.marks c.place_of-found.result c.place_in.result c.marked-marks.result
-          (c.loop-k.invariant.2 ∙ sym c.loop-k.invariant.1) c.loop-k.k c.loop-k-test.true (omega (arith, c.loop-k.invariant.1))
-          c.place_of-found.ensures c.place_in.ensures c.marked-marks.ensures c.loop-k.invariant.3,
-    )
+loop-k-preserved c = (
+  omega arith,
+  c.loop-k.invariant.1,
+  simp length-set c.loop-k.invariant.2,
+  one_more c.args.words c.loop-k.places c.loop-k.marks c.place_of-found.result c.place_in.result c.marked-marks.result
+      (c.loop-k.invariant.2 ∙ sym c.loop-k.invariant.1) c.loop-k.k c.loop-k-test.true (omega (arith, c.loop-k.invariant.1))
+      c.place_of-found.ensures c.place_in.ensures c.marked-marks.ensures c.loop-k.invariant.3,
+)
 
 pub returns-in-Is : goal.returns-in-Is
 returns-in-Is c =
