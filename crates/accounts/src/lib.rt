@@ -1,5 +1,6 @@
 // An account and its room, its seeds, and what becomes of it: new values at Enrol and at a renewal, one count down with a login.
 #![tactic(auto)]
+
 use password::algorithm::Algorithm;
 use refusal::Checked;
 

@@ -1,6 +1,7 @@
 // A message's padding, its blocks and their words, in either byte order: RFC 1321, 2, 3.1 and 3.2; FIPS 180-4, 5.1.1
 // and 5.2.1.
 #![tactic(auto)]
+
 ghost use Rattle.std.specs.Prelude.{◌≡◌, ◌+◌, ◌*◌, ◌/◌, ◌%◌, ◌<◌, ◌≤◌, [], ◌∷◌, length};
 ghost use Rattle.digests.specs.Padding.{blocks, length_byte, padded_byte, padded_word, block_at};
 ghost use Rattle.digests.specs.declared.Order.{Order};

@@ -1,7 +1,7 @@
 -- What the program prints for some inputs, as one theorem: a row of RFC 2289, Appendix C, for each algorithm, and refusals in their order.
 use Rattle.std.specs.Prelude.{◌≡◌, refl, ℕ}
 use mathlib.Core.List.{List, [], ◌∷◌, ◌++◌, map, flatten}
-use Rattle.text.specs.Scan.{run_of, index_of}
+use Rattle.text.specs.Scan.{run_of}
 use Rattle.text.specs.Digits.{digits_of, number_after}
 use Rattle.text.specs.Quoted.{codes}
 use Rattle.text.specs.Tests.{every, same}
@@ -41,7 +41,7 @@ pub refusals : map answer_of (
     ∷ [])
     ≡ map (λ number. codes "refused " ++ number ++ 10 ∷ [])
     (codes "10" ∷ codes "10" ∷ codes "20" ∷ codes "21" ∷ codes "24" ∷ codes "25" ∷ codes "70" ∷ codes "70" ∷ codes "70" ∷ [])
-unfolding typed answer_of printed_card lines_asked refused_text card_checked index_of  run_of digits_of number_after codes every
+unfolding typed answer_of printed_card lines_asked refused_text card_checked run_of digits_of number_after codes every
     plain is_count opening algorithm_name same token_at next_at count_at seed_at challenge_of
 refusals = refl
 
@@ -53,7 +53,7 @@ pub rows : map answer_of (
     ≡ (codes "1 7965e05436f5029f EASE OIL FUM CURE AWRY AVIS" ++ 10 ∷ [])
     ∷ (codes "1 63d936639734385b CART OTTO HIVE ODE VAT NUT" ++ 10 ∷ [])
     ∷ []
-unfolding typed answer_of printed_card lines_asked card_checked card_of card_text line_of index_of  run_of digits_of number_after
+unfolding typed answer_of printed_card lines_asked card_checked card_of card_text line_of run_of digits_of number_after
     codes every plain is_count opening algorithm_name same token_at next_at count_at seed_at challenge_of password hash fold fold_words bytes_after md5
     registers absorbed compressed rounds performed operation round1 round2 round3 round4
     Sha1.hash_value Sha1.compressed Sha1.schedule Sha1.longer Sha1.steps Sha1.step Sha1.step_with Sha1.f Sha1.K

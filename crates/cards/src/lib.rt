@@ -1,5 +1,6 @@
 // Cards: the lines of passwords that a person carries. Document 01, 'The card'.
 #![tactic(auto)]
+
 ghost use Rattle.std.specs.Prelude.{◌≡◌, ◌-◌, ◌≤◌, length};
 ghost use Rattle.refusal.specs.declared.Checked.{Checked};
 ghost use Rattle.text.specs.Put.{Writes, leaves};

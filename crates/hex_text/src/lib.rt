@@ -1,5 +1,6 @@
 // A password as sixteen hex digits, written and read. Document 01, 'Six words and hex'.
 #![tactic(auto)]
+
 ghost use Rattle.std.specs.Prelude.{◌≡◌};
 ghost use Rattle.text.specs.Put.{Writes};
 ghost use Rattle.text.specs.Scan.{unspaced};

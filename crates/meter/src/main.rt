@@ -8,17 +8,19 @@
 // Prints what the last table has: ports in line, the turns of the first of them and of the fourth, port 0's wrong run, port 3's shut ticks; in place
 // of those after a renewal how long the seed is that the account remembers behind its present one. Of a reading or a hash it prints the last password.
 #![tactic(auto)]
-ghost use Rattle.std.specs.Prelude.{◌≤◌, ◌≡◌, length};
+
+ghost use Rattle.std.specs.Prelude.{◌≤◌, ◌≡◌, IfOk, length};
 
 use extended::reply_texts::{ReplyText, seed_part};
 use generator::chain::step;
 use generator::generate;
-use libc::{STDIN_FILENO, STDOUT_FILENO};
 use line::Lines;
 use password::algorithm::{Algorithm, number_of};
 use password::eight_bytes::bytes_of;
 use port::Port;
 use refusal::Reading;
+use std::io;
+use std::io::Read;
 use table::held::{account_at, place_of, put};
 use table::{Table, fresh};
 use text::counts::Counted;
@@ -337,9 +339,9 @@ fn hashes(algorithm: Algorithm, times: u64) -> u64 {
     p
 }
 
-fn print_number(n: u64, after: &[u8]) {
-    io::print_decimal(STDOUT_FILENO, n);
-    io::write_all(STDOUT_FILENO, after);
+fn print_number(to: io::Stdout, n: u64, after: &[u8]) -> io::Result<()> {
+    to.print(n)?;
+    to.write_all(after)
 }
 
 // How long the newest of the older seeds is, in the room of the last account; 0 where there is none.
@@ -352,62 +354,81 @@ fn newest_len(older: &[u8; 3808], accounts: u16) -> u8 {
 }
 
 // What the last table has; the last number after a renewal is `newest`.
-fn print_left(last: Table, renewed: bool, newest: u8) {
+fn print_left(to: io::Stdout, last: Table, renewed: bool, newest: u8) -> io::Result<()> {
     let ports = last.ports;
     let first = ports[0];
     let fourth = ports[3];
     let lines = last.lines;
-    print_number(lines.len as u64, b" ");
-    print_number(turn_in(lines, 0) as u64, b" ");
-    print_number(turn_in(lines, 3) as u64, b" ");
-    print_number(first.wrong as u64, b" ");
+    print_number(to, lines.len as u64, b" ")?;
+    print_number(to, turn_in(lines, 0) as u64, b" ")?;
+    print_number(to, turn_in(lines, 3) as u64, b" ")?;
+    print_number(to, first.wrong as u64, b" ")?;
     let shut_or_seed = if renewed {
         newest as u64
     } else {
         fourth.shut as u64
     };
-    print_number(shut_or_seed, b"\n");
+    print_number(to, shut_or_seed, b"\n")
 }
 
 // What is repeated: with how many accounts, the ports in line for the last of them, or for the last four.
-fn measure(letter: u8, accounts: u16, text: &[u8], times: u64) {
+fn measure(to: io::Stdout, letter: u8, accounts: u16, text: &[u8], times: u64) -> io::Result<()> {
     let algorithm = number_of(algorithm_of(letter));
     let start = prepared(letter, table_of(algorithm, accounts), accounts);
     let right = password_at(algorithm, 99);
     let mut older = [0u8; 3808];
     let last = repeat(letter, start, &mut older, accounts, text, right, times);
-    print_left(last, call_of(letter) == b'n', newest_len(&older, accounts));
+    print_left(
+        to,
+        last,
+        call_of(letter) == b'n',
+        newest_len(&older, accounts),
+    )
 }
 
-fn print_password(p: u64) {
-    io::print_hex(STDOUT_FILENO, p, 16);
-    io::write_all(STDOUT_FILENO, b"\n");
+fn print_password(to: io::Stdout, p: u64) -> io::Result<()> {
+    println!(to; "{p:016x}")
 }
 
-fn run(letter: u8, accounts: u16, times: u64) {
+fn run(to: io::Stdout, letter: u8, accounts: u16, times: u64) -> io::Result<()> {
     let mut buf = [0u8; 96];
     let len = put_text(letter, &mut buf);
     let text = &buf[..len];
     match letter {
-        b's' | b'S' => print_password(hashes(algorithm_of(letter), times)),
-        b'a' | b'b' => print_password(readings(text, times)),
-        _ => measure(letter, accounts, text, times),
+        b's' | b'S' => print_password(to, hashes(algorithm_of(letter), times)),
+        b'a' | b'b' => print_password(to, readings(text, times)),
+        _ => measure(to, letter, accounts, text, times),
     }
 }
 
-fn main() {
+// Reads until the buffer is full or the input ends. How many bytes now stand at its front.
+fn read_full(mut from: io::Stdin, buf: &mut [u8]) -> io::Result<usize>
+    ensures { IfOk result (λ n. n ≤ length buf.new) }
+{
+    let mut done = 0;
+    while done < buf.len() {
+        let n = from.read(&mut buf[done..])?;
+        if n == 0 {
+            break;
+        }
+        done += n;
+    }
+    Ok(done)
+}
+
+fn main(rt: HostRuntime) -> io::Result<()> {
     let mut input = [0u8; 6];
-    let n = io::read_full(STDIN_FILENO, &mut input);
+    let n = read_full(rt.stdin(), &mut input)?;
     if n < 3 {
-        return;
+        return Ok(());
     }
     let Counted::Is(thousands) = text::counts::read_count(&input[2..n]) else {
-        return;
+        return Ok(());
     };
     let accounts = match input[1] {
         b'0' => 0,
         b'1' => 1,
         _ => 32,
     };
-    run(input[0], accounts, thousands as u64 * 1000);
+    run(rt.stdout(), input[0], accounts, thousands as u64 * 1000)
 }

@@ -1,5 +1,6 @@
 // A port's own record: its run of wrong replies and its shut ticks.
 #![tactic(auto)]
+
 ghost use Rattle.std.specs.Prelude.{◌≡◌};
 ghost use Rattle.port.specs.Port.{wrongly, wrong_answer, rightly, cooled};
 

@@ -4,75 +4,80 @@ ghost use Rattle.std.specs.Prelude.{◌<◌, ◌≡◌, length};
 use crate::printing::{byte, bytes, good, number, password};
 use line::Lines;
 use password::algorithm::number_of;
+use std::io;
 use table::Table;
 
 // What stands before each entry of a list but the first.
-fn between(k: usize, mark: u8) {
+fn between(to: io::Stdout, k: usize, mark: u8) -> io::Result<()> {
     if 0 < k {
-        byte(mark);
+        byte(to, mark)?;
     }
+    Ok(())
 }
 
 // Entry k of a list of pairs.
-fn pair(k: usize, a: u64, b: u64) {
-    between(k, b',');
-    number(a);
-    byte(b':');
-    number(b);
+fn pair(to: io::Stdout, k: usize, a: u64, b: u64) -> io::Result<()> {
+    between(to, k, b',')?;
+    number(to, a)?;
+    byte(to, b':')?;
+    number(to, b)
 }
 
 // `-` for a list of none.
-fn dash(shown: usize) {
+fn dash(to: io::Stdout, shown: usize) -> io::Result<()> {
     if shown == 0 {
-        byte(b'-');
+        byte(to, b'-')?;
     }
+    Ok(())
 }
 
 // A seed: the first bytes of its room.
-fn seed(kept: [u8; 16], len: usize) {
+fn seed(to: io::Stdout, kept: [u8; 16], len: usize) -> io::Result<()> {
     if len <= 16 {
-        bytes(&kept[..len]);
+        bytes(to, &kept[..len])?;
     }
+    Ok(())
 }
 
 // The older seeds of the account in that room, newest first: each with its length before it in a place of 17 bytes. No call makes a longer one.
-fn older_seeds(older: &[u8], at: usize, n: u8)
+fn older_seeds(to: io::Stdout, older: &[u8], at: usize, n: u8) -> io::Result<()>
     requires at_bound { at < 32 }
     requires older_len { length older.now ≡ 3808 }
 {
     let mut i = 0;
     while i < 7 {
         if n as usize <= i {
-            return;
+            return Ok(());
         }
         let from = at * 119 + i * 17;
         let len = older[from];
         i += 1;
         if len <= 16 {
-            byte(b'/');
-            bytes(&older[from + 1..from + 1 + len as usize]);
+            byte(to, b'/')?;
+            bytes(to, &older[from + 1..from + 1 + len as usize])?;
         }
     }
+    Ok(())
 }
 
 // The line of the account in that room, front first. How many were shown.
-fn line_at(lines: Lines, at: usize) -> usize {
+fn line_at(to: io::Stdout, lines: Lines, at: usize) -> io::Result<usize> {
     let places = lines.places;
     let mut shown = 0;
     let mut i = 0;
     while i < 4 {
         if lines.len <= i {
-            return shown;
+            return Ok(shown);
         }
         let place = places[i];
         i += 1;
         if (place.room % 32) as usize == at {
-            between(shown, b'.');
-            number(place.port as u64);
+            between(to, shown, b'.')?;
+            number(to, place.port as u64)?;
             shown += 1;
         }
     }
-    shown
+    Ok(shown)
 }
 
 // The turn of that line's front port; 0 where nobody waits.
@@ -92,34 +97,34 @@ fn turn_at(lines: Lines, at: usize) -> u8 {
     0
 }
 
-fn waiting(lines: Lines, at: usize) {
-    dash(line_at(lines, at));
-    byte(b':');
-    number(turn_at(lines, at) as u64);
+fn waiting(to: io::Stdout, lines: Lines, at: usize) -> io::Result<()> {
+    dash(to, line_at(to, lines, at)?)?;
+    byte(to, b':')?;
+    number(to, turn_at(lines, at) as u64)
 }
 
 // Entry k of the accounts, from a room.
-fn account(k: usize, table: Table, older: &[u8], at: usize)
+fn account(to: io::Stdout, k: usize, table: Table, older: &[u8], at: usize) -> io::Result<()>
     requires at_bound { at < 32 }
     requires older_len { length older.now ≡ 3808 }
 {
     let rooms = table.rooms;
     let account = rooms[at];
-    between(k, b',');
-    number(account.id as u64);
-    byte(b':');
+    between(to, k, b',')?;
+    number(to, account.id as u64)?;
+    byte(to, b':')?;
     let algorithm = account.algorithm;
-    number(number_of(algorithm) as u64);
-    byte(b':');
-    number(account.count as u64);
-    byte(b':');
-    password(account.password);
-    byte(b':');
+    number(to, number_of(algorithm) as u64)?;
+    byte(to, b':')?;
+    number(to, account.count as u64)?;
+    byte(to, b':')?;
+    password(to, account.password)?;
+    byte(to, b':')?;
     let kept = account.seed;
-    seed(kept, account.len);
-    older_seeds(older, at, account.older_count);
-    byte(b':');
-    waiting(table.lines, at);
+    seed(to, kept, account.len)?;
+    older_seeds(to, older, at, account.older_count)?;
+    byte(to, b':')?;
+    waiting(to, table.lines, at)
 }
 
 // The room of the account with the least id above `last`; 32 where there is none.
@@ -140,7 +145,7 @@ fn next_room(table: Table, last: u16) -> usize {
 }
 
 // How many accounts were shown.
-fn accounts(table: Table, older: &[u8]) -> usize
+fn accounts(to: io::Stdout, table: Table, older: &[u8]) -> io::Result<usize>
     requires { length older.now ≡ 3808 }
 {
     let rooms = table.rooms;
@@ -149,39 +154,40 @@ fn accounts(table: Table, older: &[u8]) -> usize
     while k < 32 {
         let at = next_room(table, last);
         if 31 < at {
-            return k;
+            return Ok(k);
         }
-        account(k, table, older, at);
+        account(to, k, table, older, at)?;
         let room = rooms[at];
         last = room.id;
         k += 1;
     }
-    k
+    Ok(k)
 }
 
-fn ports(table: Table) {
+fn ports(to: io::Stdout, table: Table) -> io::Result<()> {
     let ports = table.ports;
     let mut i = 0;
     while i < 4 {
         let port = ports[i];
-        pair(i, port.wrong as u64, port.shut as u64);
+        pair(to, i, port.wrong as u64, port.shut as u64)?;
         i += 1;
     }
+    Ok(())
 }
 
 // The name of a part of the table.
-fn part(name: u8) {
-    byte(b' ');
-    byte(name);
-    byte(b'=');
+fn part(to: io::Stdout, name: u8) -> io::Result<()> {
+    byte(to, b' ')?;
+    byte(to, name)?;
+    byte(to, b'=')
 }
 
-pub fn dump(table: Table, older: &[u8; 3808]) -> Table {
-    good();
-    part(b'A');
-    dash(accounts(table, older));
-    part(b'P');
-    ports(table);
-    byte(b'\n');
-    table
+pub fn dump(to: io::Stdout, table: Table, older: &[u8; 3808]) -> io::Result<Table> {
+    good(to)?;
+    part(to, b'A')?;
+    dash(to, accounts(to, table, older)?)?;
+    part(to, b'P')?;
+    ports(to, table)?;
+    byte(to, b'\n')?;
+    Ok(table)
 }

@@ -42,7 +42,7 @@ pub fn end_of(line: &[u8], at: usize) -> usize
     requires { at ≤ length line.now }
     ensures { (result ≡ at + index_of 32 (drop at line.now)) × (result ≤ length line.now) }
 {
-    bytes::scan::find(line, at, line.len(), b' ')
+    text::scan::find(line, at, b' ')
 }
 
 fn of_number(number: Number) -> Word

@@ -10,46 +10,50 @@ use crate::script_words::{Given, number, short, text};
 use challenge::reading::Challenge;
 use password::algorithm::number_of;
 use refusal::Written;
+use std::io;
 
 // A digest as it was left, if its writer wrote it.
-fn digested(res: Written, digest: &[u8]) {
+fn digested(to: io::Stdout, res: Written, digest: &[u8]) -> io::Result<()> {
     match res {
         Written::Wrote(_) => {
-            good();
-            byte(b' ');
-            bytes(digest);
-            byte(b'\n');
+            good(to)?;
+            byte(to, b' ')?;
+            bytes(to, digest)?;
+            byte(to, b'\n')
         }
-        Written::Refused(why) => refused(why),
+        Written::Refused(why) => refused(to, why),
     }
 }
 
-fn md5(data: &[u8]) {
+fn md5(to: io::Stdout, data: &[u8]) -> io::Result<()> {
     let mut digest = [0u8; 16];
     let result = md5_hash::digest::digest(data, &mut digest);
-    digested(result, &digest);
+    digested(to, result, &digest)
 }
 
-fn sha1(data: &[u8]) {
+fn sha1(to: io::Stdout, data: &[u8]) -> io::Result<()> {
     let mut digest = [0u8; 20];
     let result = sha1_hash::digest::digest(data, &mut digest);
-    digested(result, &digest);
+    digested(to, result, &digest)
 }
 
-fn generate(line: &[u8], given: Given)
+fn generate(to: io::Stdout, line: &[u8], given: Given) -> io::Result<()>
     requires { Within given (length line.now) }
 {
     let algorithm = short(given, 0) as u32;
     let phrase = text(line, given, 1);
     let seed = text(line, given, 2);
-    reading(generator::generate(algorithm, phrase, seed, short(given, 3) as u32));
+    reading(
+        to,
+        generator::generate(algorithm, phrase, seed, short(given, 3) as u32),
+    )
 }
 
-fn read(text: &[u8]) {
-    reply_read(extended::reply_texts::read(text), text);
+fn read(to: io::Stdout, text: &[u8]) -> io::Result<()> {
+    reply_read(to, extended::reply_texts::read(text), text)
 }
 
-fn chal(text: &[u8]) {
+fn chal(to: io::Stdout, text: &[u8]) -> io::Result<()> {
     match challenge::reading::read(text) {
         Challenge::Read {
             algorithm,
@@ -59,16 +63,16 @@ fn chal(text: &[u8]) {
             used,
             ext,
         } => {
-            good();
-            after_space(number_of(algorithm) as u64);
-            after_space(count as u64);
-            after_space(start as u64);
-            after_space(len as u64);
-            after_space(used as u64);
-            after_space(if ext { 1 } else { 0 });
-            byte(b'\n');
+            good(to)?;
+            after_space(to, number_of(algorithm) as u64)?;
+            after_space(to, count as u64)?;
+            after_space(to, start as u64)?;
+            after_space(to, len as u64)?;
+            after_space(to, used as u64)?;
+            after_space(to, if ext { 1 } else { 0 })?;
+            byte(to, b'\n')
         }
-        Challenge::Refused(why) => refused(why),
+        Challenge::Refused(why) => refused(to, why),
     }
 }
 
@@ -115,39 +119,39 @@ fn write(call: usize, line: &[u8], given: Given, lent: &mut [u8]) -> Written
 }
 
 // A writer's call, which is lent that many bytes.
-fn writer(call: usize, line: &[u8], given: Given, room: u64)
+fn writer(to: io::Stdout, call: usize, line: &[u8], given: Given, room: u64) -> io::Result<()>
     requires { Within given (length line.now) }
 {
     let mut buf = filled();
     let lent = first(&mut buf, room);
     let result = write(call, line, given, lent);
-    written(result, lent);
+    written(to, result, lent)
 }
 
-fn prog(stdin: &[u8]) {
+fn prog(to: io::Stdout, stdin: &[u8]) -> io::Result<()> {
     let mut stdout = [0u8; 5148];
     let n = cards::printed::answer(stdin, &mut stdout);
-    good();
-    byte(b' ');
-    bytes(&stdout[..n]);
-    byte(b'\n');
+    good(to)?;
+    byte(to, b' ')?;
+    bytes(to, &stdout[..n])?;
+    byte(to, b'\n')
 }
 
 // Answers a call whose words are of its kinds, by its number.
-pub fn answer(call: usize, line: &[u8], given: Given)
+pub fn answer(to: io::Stdout, call: usize, line: &[u8], given: Given) -> io::Result<()>
     requires { Within given (length line.now) }
 {
     match call {
-        0 => md5(text(line, given, 0)),
-        1 => sha1(text(line, given, 0)),
-        2 => generate(line, given),
-        5 => read(text(line, given, 0)),
-        6 => chal(text(line, given, 0)),
-        7 | 8 => writer(call, line, given, number(given, 3)),
-        9 => prog(text(line, given, 0)),
-        10 => writer(call, line, given, number(given, 2)),
-        11 => writer(call, line, given, number(given, 6)),
-        12 => plain(reply::read(text(line, given, 0))),
-        _ => writer(call, line, given, number(given, 1)),
+        0 => md5(to, text(line, given, 0)),
+        1 => sha1(to, text(line, given, 0)),
+        2 => generate(to, line, given),
+        5 => read(to, text(line, given, 0)),
+        6 => chal(to, text(line, given, 0)),
+        7 | 8 => writer(to, call, line, given, number(given, 3)),
+        9 => prog(to, text(line, given, 0)),
+        10 => writer(to, call, line, given, number(given, 2)),
+        11 => writer(to, call, line, given, number(given, 6)),
+        12 => plain(to, reply::read(text(line, given, 0))),
+        _ => writer(to, call, line, given, number(given, 1)),
     }
 }

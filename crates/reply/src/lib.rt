@@ -1,5 +1,6 @@
 // What a plain reply says, six words or sixteen hex digits, and its reader. Document 01, 'Six words and hex'.
 #![tactic(auto)]
+
 ghost use Rattle.std.specs.Prelude.{◌≡◌};
 ghost use Rattle.reply.specs.Reply.{six_reading, reading_of};
 

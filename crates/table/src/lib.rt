@@ -2,6 +2,7 @@
 // the table has the present one. The older ones, which one call in many looks at, are 3,808 bytes that the controller keeps beside the table and lends
 // to the offer of a renewal: seven places of 17 bytes for each room (`accounts::older`). What they hold at the start doesn't matter.
 #![tactic(auto)]
+
 ghost use Rattle.std.specs.Prelude.{ℕ, ◌≡◌, List};
 ghost use Rattle.table.specs.Table as spec;
 

@@ -1,5 +1,6 @@
 // The calls of the port that has the turn: Challenge, and Offer, of a password or of a renewal. A caller that has a text reads it first (`extended`).
 #![tactic(auto)]
+
 ghost use Rattle.std.specs.Prelude.{ℕ, ◌≡◌, List, length, get_or, set};
 ghost use Rattle.text.specs.Put.{leaves};
 ghost use Rattle.table.specs.Table.{view, fresh_port};

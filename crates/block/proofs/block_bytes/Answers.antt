@@ -5,4 +5,3 @@ use Rattle.block.proofs.block_bytes.Goals as goal
 
 pub returns-then-j-m : goal.returns-then-j-m
 returns-then-j-m c = c.message_bytes.ensures ∙ bytes_message _ _ _ c.if-j-m.true
-

@@ -25,7 +25,9 @@ returns-in-Refused-check_seed c =
     (sym c.check_seed.ensures ∙ c.in-Refused-check_seed.is))
 
 pub returns-then-count-gt9999 : goal.returns-then-count-gt9999
-returns-then-count-gt9999 c = sym (refused_count _ _ _ _ (phrase_good (goal.at.returns-then-count-gt9999 c).In_default) (seed_good (goal.at.returns-then-count-gt9999 c).In_default-check_seed) c.if-count-gt9999.true)
+returns-then-count-gt9999 c =
+    let at = goal.at.returns-then-count-gt9999 c in
+    sym (refused_count _ _ _ _ (phrase_good at.In_default) (seed_good at.In_default-check_seed) c.if-count-gt9999.true)
 
 pub returns : goal.returns
 returns c =

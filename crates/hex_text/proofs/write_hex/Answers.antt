@@ -9,4 +9,3 @@ pub returns-then-buf-lt16 : goal.returns-then-buf-lt16
 returns-then-buf-lt16 c =
     let a = c.args in
     short_writes (hex_of a.password) a.buf.now (omega (arith, hex_length a.password))
-

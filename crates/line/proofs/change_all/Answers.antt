@@ -34,4 +34,3 @@ loop-i-preserved c =
     c.loop-i-test.true at.invariant
     c.stays.result c.turn_after-turn.result c.stays.ensures c.turn_after-turn.ensures
     (sym c.leaves.ensures ∙ c.if-leaves.false)
-

@@ -35,4 +35,3 @@ loop-i-preserved c =
       in_next c.args.port c.args.lines.places at.i (omega arith)
           ∙ ap₂ (λ (x y : Bool). x || y) (ne_eqb _ _ c.if-place-port.false) at.invariant.2,
     )
-

@@ -43,4 +43,3 @@ pub loop-i-preserved : goal.loop-i-preserved
 loop-i-preserved c =
     let at = c.loop-i in
     (omega arith, omega arith, ap (λ (b : Bool). cond b c.room_in-room.result at.found) (sym c.if-place-port.false) ∙ next (goal.at.loop-i-preserved c).After-struct_known-1)
-

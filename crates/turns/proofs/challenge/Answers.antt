@@ -12,19 +12,25 @@ use Rattle.turns.proofs.challenge.Goals as goal
 
 pub returns-in-Refused : goal.returns-in-Refused
 returns-in-Refused c =
-    record { answered = λ older.
+    record {
+      answered = λ older.
           sym (challenge_refused _ (view c.args.table older) _ _
-          (sym (ap (λ (t : Seen). t.checked) (c.turn_of-turn.ensures older)) ∙ c.in-Refused.is)); left = λ older. refl }
+          (sym (ap (λ (t : Seen). t.checked) (c.turn_of-turn.ensures older)) ∙ c.in-Refused.is));
+      left = λ older. refl;
+    }
 
 pub returns : goal.returns
 returns c =
     let a = c.args in
-    let b = a.buf.now in record { answered = λ older.
+    let b = a.buf.now in record {
+      answered = λ older.
           c.write_challenge.ensures.answered
           ∙ ap (λ (t : Seen). challenge_written_by true t.account.algorithm t.account.seed (t.account.count - 1) (length b))
           (c.turn_of-turn.ensures older)
           ∙ sym (challenge_done _ (view a.table older) _
-          (sym (ap (λ (t : Seen). t.checked) (c.turn_of-turn.ensures older)) ∙ c.in_default.is)); left = λ older.
+          (sym (ap (λ (t : Seen). t.checked) (c.turn_of-turn.ensures older)) ∙ c.in_default.is));
+      left = λ older.
           c.write_challenge.ensures.left
           ∙ ap (λ (t : Seen). leaves c.write_challenge.result
-          (challenge_text true t.account.algorithm t.account.seed (t.account.count - 1)) b) (c.turn_of-turn.ensures older) }
+          (challenge_text true t.account.algorithm t.account.seed (t.account.count - 1)) b) (c.turn_of-turn.ensures older);
+    }

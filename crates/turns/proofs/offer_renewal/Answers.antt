@@ -43,7 +43,10 @@ returns c =
     let left = c.renewed-made.new.older in
     let s = view a.table older in
     let does : Seen → Said = renewed a.algorithm a.count a.seed.now a.new a.password in
-    let answer : c.put_back.result.answer ≡ made.answer = ap (λ (x : After Replied). x.answer) (c.put_back.ensures older) in record { answered = c.put_back.ensures left
+    let answer : c.put_back.result.answer ≡ made.answer = ap (λ (x : After Replied). x.answer) (c.put_back.ensures older) in record {
+      answered = c.put_back.ensures left
           ∙ after_elsewhere a.port a.table older left (outcome made left) c.renewed-made.ensures.elsewhere
           ∙ ap (after a.port s) (c.renewed-made.ensures.said ∙ ap does (c.turn_of.ensures older))
-          ∙ after_renewal a.port s a.algorithm a.count a.seed.now a.new a.password; left = λ why e. c.renewed-made.ensures.left why (sym answer ∙ e) }
+          ∙ after_renewal a.port s a.algorithm a.count a.seed.now a.new a.password;
+      left = λ why e. c.renewed-made.ensures.left why (sym answer ∙ e);
+    }

@@ -61,4 +61,3 @@ loop-i-preserved c =
       ap (λ (l : List ℕ). set l (at.i - 1) (get_or l (at.i - 1 - 17) 0)) at.invariant.3
           ∙ step p at.i (omega arith) (omega arith) at.invariant.2,
     )
-

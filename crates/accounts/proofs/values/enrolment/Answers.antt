@@ -9,4 +9,3 @@ use Rattle.accounts.proofs.values.enrolment.Goals as goal
 pub account-requires : goal.account-requires
 account-requires c = let a = c.args in
     fits a.algorithm a.count a.seed.now (sym c.check_new-checked.ensures ∙ c.in_default.is)
-

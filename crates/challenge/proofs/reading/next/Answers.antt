@@ -24,11 +24,11 @@ reached c = past _ _ _ _ c.token.ensures c.run.ensures
 
 pub overflow_add-result : goal.overflow_add-result
 overflow_add-result c = omega (
-      arith,
-      reached (goal.at.overflow_add-result c).After-run,
-      next_within c.args.text.now
-          c.args.at c.requires,
-    )
+  arith,
+  reached (goal.at.overflow_add-result c).After-run,
+  next_within c.args.text.now
+      c.args.at c.requires,
+)
 
 pub returns : goal.returns
 returns c = reached (goal.at.returns c).After-run

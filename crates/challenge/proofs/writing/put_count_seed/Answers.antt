@@ -10,4 +10,3 @@ use Rattle.challenge.proofs.writing.put_count_seed.Goals as goal
 
 pub put_seed-requires : goal.put_seed-requires
 put_seed-requires c = omega (arith, length_count c.args.count 32)
-

@@ -65,12 +65,18 @@ overflow_add-name_length-4 c = omega (arith, small (goal.at.overflow_add-name_le
 
 pub returns-then-buf-name_length : goal.returns-then-buf-name_length
 returns-then-buf-name_length c =
-    let a = c.args in record { answered = short a.ext a.algorithm a.seed.now a.count (length a.buf.now) (seed_good (goal.at.returns-then-buf-name_length c).In_default)
-          c.if-count-gt9999.false (omega (arith, c.name_length.ensures.0, c.width.ensures, c.ending_length.ensures, c.if-buf-name_length.true)); left = refl }
+    let a = c.args in record {
+      answered = short a.ext a.algorithm a.seed.now a.count (length a.buf.now) (seed_good (goal.at.returns-then-buf-name_length c).In_default)
+          c.if-count-gt9999.false (omega (arith, c.name_length.ensures.0, c.width.ensures, c.ending_length.ensures, c.if-buf-name_length.true));
+      left = refl;
+    }
 
 pub returns : goal.returns
 returns c =
-    let a = c.args in record { answered = fits a.ext a.algorithm a.seed.now a.count (length a.buf.now) (seed_good (goal.at.returns c).In_default) _
+    let a = c.args in record {
+      answered = fits a.ext a.algorithm a.seed.now a.count (length a.buf.now) (seed_good (goal.at.returns c).In_default) _
           c.if-count-gt9999.false
           (omega (arith, c.name_length.ensures.0, c.width.ensures, c.ending_length.ensures, c.if-buf-name_length.false))
-          c.put_challenge.ensures.0; left = c.put_challenge.ensures.1 }
+          c.put_challenge.ensures.0;
+      left = c.put_challenge.ensures.1;
+    }

@@ -32,8 +32,8 @@ unfolding algorithm_name codes
 name_put c =
     let a = c.args in
     elim c.match-algorithm.branch [
-      in-Md5 w ↦ arm a.algorithm _ a.buf.now _ _ _ _ (ap algorithm_name w.in-Md5.is) w.copy-a.ensures w.buf-is w.a-is
-    | in-Sha1 w ↦ arm a.algorithm _ a.buf.now _ _ _ _ (ap algorithm_name w.in-Sha1.is) w.copy-a-in-Sha1.ensures w.buf-is w.a-is
+      | in-Md5 w ↦ arm a.algorithm _ a.buf.now _ _ _ _ (ap algorithm_name w.in-Md5.is) w.copy-a.ensures w.buf-is w.a-is
+      | in-Sha1 w ↦ arm a.algorithm _ a.buf.now _ _ _ _ (ap algorithm_name w.in-Sha1.is) w.copy-a-in-Sha1.ensures w.buf-is w.a-is
     ]
 
 as_long : (c : Joined-algorithm) → length c.match-algorithm.buf ≡ length c.args.buf.now

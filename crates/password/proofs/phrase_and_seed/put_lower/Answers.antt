@@ -106,4 +106,3 @@ loop-i-preserved c =
       next.0 ∙ at.invariant.2,
       next.1,
     )
-

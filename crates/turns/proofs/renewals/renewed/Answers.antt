@@ -34,7 +34,11 @@ returns c =
     let values = spec.renew_values a.algorithm a.count a.seed.now a.new a.password t in
     let place : made.place ≡ a.turn.place =
     ap (λ (o : Said). o.place) c.renew_values-made.ensures
-    ∙ renewed_place a.algorithm a.count a.seed.now a.new a.password t in record { said = ap (outcome made) c.keep_seed.ensures ∙ c.renew_values-made.ensures ∙ first_good (refused t) _ values c.in_default.is; left = λ why e. c.keep_seed.ensures ∙ ap (λ (r : Replied). older_after r older (remembering a.turn.place a.turn.account older)) e; elsewhere = λ room d.
-            ap (λ (l : List ℕ). part_of l room) c.keep_seed.ensures
-            ∙ older_after_lem made.answer a.turn.place a.turn.account older (c.requires.place_bound c.in_default.is) c.requires.older_len (sixteen (goal.at.returns c).Start)
-            room (λ e. d (e ∙ sym place)) }
+    ∙ renewed_place a.algorithm a.count a.seed.now a.new a.password t in record {
+      said = ap (outcome made) c.keep_seed.ensures ∙ c.renew_values-made.ensures ∙ first_good (refused t) _ values c.in_default.is;
+      left = λ why e. c.keep_seed.ensures ∙ ap (λ (r : Replied). older_after r older (remembering a.turn.place a.turn.account older)) e;
+      elsewhere = λ room d.
+          ap (λ (l : List ℕ). part_of l room) c.keep_seed.ensures
+          ∙ older_after_lem made.answer a.turn.place a.turn.account older (c.requires.place_bound c.in_default.is) c.requires.older_len (sixteen (goal.at.returns c).Start)
+          room (λ e. d (e ∙ sym place));
+    }

@@ -1,0 +1,25 @@
+-- `answer` meets its promise: 12 first, then the card of the input's lines.
+use Prim.Native.Nat.{ℕ}
+use mathlib.Core.Path.{◌≡◌, ◌∙◌, subst}
+use mathlib.Core.List.{List}
+use Rattle.text.specs.Put.{Put}
+use Rattle.cards.specs.Printed.{printed_card}
+use Rattle.cards.proofs.printed.PrintedLines.{long_input, short_input}
+use Rattle.cards.proofs.printed.answer.Goals as goal
+
+same_printed : {p p' c c' : List ℕ} {k k' : ℕ} → p ≡ p' → c ≡ c' → k ≡ k' → printed_card p c k ≡ printed_card p' c' k'
+same_printed e f g = cc
+
+pub returns-then-input-gt256 : goal.returns-then-input-gt256
+returns-then-input-gt256 c =
+    let a = c.args in
+    subst (λ (t : List ℕ). Put t a.buf.now c.put_refused.new.buf c.put_refused.result)
+    (long_input a.input.now c.if-input-gt256.true) c.put_refused.ensures
+
+pub returns : goal.returns
+returns c =
+    let a = c.args in
+    subst (λ (t : List ℕ). Put t a.buf.now c.put_card.new.buf c.put_card.result)
+    (same_printed c.first_line.ensures c.challenge_of.ensures c.lines_of.ensures
+    ∙ short_input a.input.now c.if-input-gt256.false)
+    c.put_card.ensures
