@@ -29,7 +29,7 @@ echo 'refused 20'
 exit "$STATUS"
 """
 CRATES = "# a comment\ncard: text check\ntext: refusal\nother: text\nrefusal:\n"
-BEFORE = ["first, this once: 2 of the 3 crates of card are to be proved, which takes some minutes", "proved: 2 of 3, text (N s)"]
+BEFORE = ["first, this once: 2 of the 3 crates of card have no proof here yet, which may take some minutes", "proved: 2 of 3, text (N s)"]
 AFTER = ["proved: 3 of 3, card (N s)"]
 WHOLE = ["note: text", "crate text: modules loaded=547 checked=0", "logic=proved functions=17", "crate card: modules loaded=0 checked=83",
          "logic=proved functions=2 axioms=8"]
