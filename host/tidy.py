@@ -14,7 +14,8 @@ IMPORT = re.compile(r"^((?:ghost |pub )?use )([^\s;{]+?)(?:\.\{([^}]*)\})?(?: as
 
 
 def sources():
-    return sorted(path for path in (ROOT / "crates").glob("**/*") if path.suffix in (".rt", ".antt"))
+    """The sources, without the copies of them that rt keeps in a crate's folder out/."""
+    return sorted(path for part in ("src", "specs", "proofs") for path in (ROOT / "crates").glob(f"*/{part}/**/*") if path.suffix in (".rt", ".antt"))
 
 
 def without_comments(text):

@@ -43,7 +43,7 @@ def is_relied_on(crate):
 def named_in(crate):
     """The crates that a crate's sources name."""
     found = set()
-    for path in (CRATES / crate).glob("**/*.antt"):
+    for path in [*(CRATES / crate / "specs").glob("**/*.antt"), *(CRATES / crate / "proofs").glob("**/*.antt")]:
         found |= set(re.findall(r"^(?:pub )?use Rattle\.(\w+)\.", path.read_text(), re.M))
     for path in (CRATES / crate / "src").glob("**/*.rt"):
         text = tidy.without_comments(path.read_text())
