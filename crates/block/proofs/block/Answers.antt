@@ -1,7 +1,7 @@
 -- `block` meets its promise: the words before k are the block's.
-use Rattle.std.proofs.Common.{ℕ, ◌-◌, List, ap, ◌∙◌, rules}
+use Rattle.std.proofs.Common.{ℕ, List, ap, ◌∙◌}
 use Rattle.digests.specs.Padding.{padded_word, block_at}
-use Rattle.digests.specs.Lists.{filling_starts, filling_goes_on, filling_ends}
+use Rattle.digests.specs.Lists.{filling_goes_on, filling_ends}
 use Rattle.block.specs.Laws.{word_block}
 use Rattle.block.proofs.block.Goals as goal
 

@@ -1,6 +1,5 @@
 -- `message_bytes` meets its promise: the bytes before i are the message's.
-use Rattle.std.proofs.Common.{◌-◌, refl, rules}
-use Rattle.digests.specs.Lists.{filling_starts, filling_goes_on, filling_ends}
+use Rattle.digests.specs.Lists.{filling_ends}
 use Rattle.block.specs.Inside.{message_bytes}
 use Rattle.block.proofs.message_bytes.Goals as goal
 

@@ -1,6 +1,5 @@
 -- `padded_bytes` meets its promise: the bytes before i are the block's.
-use Rattle.std.proofs.Common.{◌-◌, rules}
-use Rattle.digests.specs.Lists.{filling_starts, filling_goes_on, filling_ends}
+use Rattle.digests.specs.Lists.{filling_ends}
 use Rattle.block.specs.Inside.{block_bytes}
 use Rattle.block.proofs.padded_bytes.Goals as goal
 

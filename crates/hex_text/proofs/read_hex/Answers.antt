@@ -1,6 +1,6 @@
 -- `read_hex` meets its promise. The loop's invariant: the whole reads as the digits passed and what is left.
 use mathlib.Core.Path.{sym, ◌∙◌, ap}
-use Prim.Native.Nat.{◌-◌, ◌+◌, ◌*◌}
+use Prim.Native.Nat.{◌+◌, ◌*◌}
 use native.Mathlib.Omega.{arith}
 use lib.ListN.{drop, get_or}
 use Rattle.text.specs.Scan.{unspaced}

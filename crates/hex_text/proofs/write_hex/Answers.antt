@@ -1,7 +1,7 @@
 -- `write_hex` meets its promise.
 use native.Mathlib.Omega.{arith}
 use Rattle.hex_text.specs.Laws.{hex_length}
-use Rattle.text.specs.PutLaws.{put_writes, short_writes}
+use Rattle.text.specs.PutLaws.{short_writes}
 use Rattle.hex_text.specs.Hex.{hex_of}
 use Rattle.hex_text.proofs.write_hex.Goals as goal
 

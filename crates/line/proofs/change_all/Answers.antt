@@ -1,12 +1,10 @@
 -- `change_all` meets its promise: the first k that stay are what becomes of the first i places.
-use Prim.Native.Nat.{◌-◌}
-use mathlib.Core.Path.{◌≡◌, sym, ap, ◌∙◌}
-use mathlib.Core.List.{[]}
+use mathlib.Core.Path.{◌≡◌, sym, ◌∙◌}
 use borrow.Author.Rules.{rules}
 use native.Mathlib.Omega.{arith}
-use lib.ListN.{length, take}
-use Rattle.line.specs.Inside.{changed, leaves, turn_after}
-use Rattle.line.specs.Laws.{unmapped, all_taken}
+use lib.ListN.{length}
+use Rattle.line.specs.Inside.{leaves, turn_after}
+use Rattle.line.specs.Laws.{unmapped}
 use Rattle.line.proofs.Flat.{made_none, made_gone, made_stays}
 use Rattle.line.proofs.change_all.Goals as goal
 use Rattle.line.proofs.change_all.Goals.{Start}

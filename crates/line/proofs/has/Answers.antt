@@ -1,11 +1,10 @@
 -- `has` meets its promise: the port is in none of the first i places.
-use Prim.Native.Nat.{◌-◌}
 use mathlib.Core.Path.{◌≡◌, sym, ap, ap₂, ◌∙◌}
-use mathlib.Core.Bool.{Bool, false, ◌||◌}
+use mathlib.Core.Bool.{Bool, ◌||◌}
 use borrow.Author.Rules.{rules}
 use borrow.Author.Tests.{eq-eqb, ne_eqb}
 use native.Mathlib.Omega.{arith}
-use lib.ListN.{length, take}
+use lib.ListN.{length}
 use Rattle.line.specs.Laws.{unmapped, all_taken}
 use Rattle.line.proofs.RoomFound.{in_line, in_none, in_next, in_at}
 use Rattle.line.proofs.has.Goals as goal

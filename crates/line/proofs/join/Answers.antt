@@ -10,7 +10,7 @@ use lib.Seq.{take-suc-set}
 use Rattle.line.specs.declared.Place.{Place}
 use Rattle.line.specs.Line.{waiting, waiting_in, joined_in, line_for}
 use Rattle.line.specs.Laws.{unmapped, all_taken}
-use Rattle.line.proofs.Joined.{may, joined_nobody, joined_one, line_joined}
+use Rattle.line.proofs.Joined.{may, joined_one, line_joined}
 use Rattle.line.proofs.join.Goals as goal
 use Rattle.line.proofs.join.Goals.{After-count-n, Else-n-room, Start}
 

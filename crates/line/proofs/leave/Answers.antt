@@ -1,5 +1,4 @@
 -- `leave` meets its promise: the first k that stay are what becomes of the first i places, and the port leaves each line.
-use Prim.Native.Nat.{◌-◌}
 use mathlib.Core.Path.{◌≡◌, refl, ap, ◌∙◌}
 use mathlib.Core.List.{[]}
 use borrow.Author.Rules.{rules}

@@ -1,16 +1,14 @@
 -- `room_of` meets its promise: it is the first room for the first i places.
-use Prim.Native.Nat.{ℕ, ◌+◌, ◌-◌}
+use Prim.Native.Nat.{ℕ, ◌+◌}
 use mathlib.Core.Path.{◌≡◌, sym, ap, ap₂, ◌∙◌}
 use mathlib.Core.Bool.{Bool, cond, ◌&&◌}
-use mathlib.Core.List.{List}
 use borrow.Author.Rules.{rules}
 use native.Mathlib.Omega.{arith}
 use lib.Dec.{eqb, ltb}
 use lib.ListN.{length, take}
-use Rattle.line.specs.declared.Place.{Place}
 use Rattle.line.specs.Line.{room_for}
 use Rattle.line.specs.Inside.{place_at}
-use Rattle.line.specs.Laws.{unmapped, all_taken}
+use Rattle.line.specs.Laws.{unmapped}
 use Rattle.line.proofs.RoomFound.{lines_of, found_none, found_next}
 use Rattle.line.proofs.room_of.Goals as goal
 use Rattle.line.proofs.room_of.Goals.{After-struct_known-1, Start}

@@ -6,7 +6,6 @@ use mathlib.Core.List.{map}
 use borrow.Author.Rules.{rules}
 use native.Mathlib.Omega.{arith}
 use lib.ListN.{length, take, drop}
-use lib.Seq.{length-take-le}
 use Rattle.text.specs.Tests.{same}
 use Rattle.text.specs.Kinds.{lower_of}
 use Rattle.line.specs.Laws.{all_taken}

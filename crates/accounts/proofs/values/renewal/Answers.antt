@@ -4,11 +4,11 @@ use mathlib.Core.Path.{◌≡◌, sym, ap, ap₂, ◌∙◌}
 use mathlib.Core.List.{List}
 use borrow.Author.Rules.{rules}
 use lib.ListN.{length, take}
-use Rattle.accounts.specs.Rooms.{in_places, part_of, room_of}
-use Rattle.accounts.specs.Accounts.{with_values, renewed_room}
+use Rattle.accounts.specs.Rooms.{in_places, part_of}
+use Rattle.accounts.specs.Accounts.{with_values}
 use Rattle.accounts.specs.OlderBytes.{remembering}
 use Rattle.accounts.specs.Laws.{part_pushed, pushed_older}
-use Rattle.accounts.proofs.values.Good.{fits, new_too, none_proposed, room-proposed}
+use Rattle.accounts.proofs.values.Good.{fits, new_too, room-proposed}
 use Rattle.accounts.proofs.values.renewal.Goals as goal
 use Rattle.accounts.proofs.values.renewal.Goals.{Start}
 

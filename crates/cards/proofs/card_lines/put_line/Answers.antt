@@ -3,7 +3,7 @@ use Prim.Native.Nat.{ℕ}
 use mathlib.Core.Path.{◌≡◌}
 use mathlib.Core.List.{[], ◌∷◌, ◌++◌, append_assoc}
 use native.Mathlib.Omega.{arith}
-use Rattle.text.specs.PutLaws.{then_put, front_within}
+use Rattle.text.specs.PutLaws.{then_put}
 use Rattle.hex_text.specs.Hex.{hex_of}
 use Rattle.sixwords.specs.Spelling.{words_of}
 use Rattle.text.specs.Counts.{decimal_of}

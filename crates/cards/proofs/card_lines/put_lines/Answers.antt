@@ -7,7 +7,7 @@ use native.Mathlib.Omega.{arith}
 use lib.ListN.{length, get_or}
 use borrow.Rule.Slice.PartMut.{same_len_mid}
 use Rattle.text.specs.Put.{Put}
-use Rattle.text.specs.PutLaws.{then_put, front_within}
+use Rattle.text.specs.PutLaws.{then_put}
 use Rattle.sixwords.specs.Spelling.{words_of}
 use Rattle.text.specs.Counts.{width_of}
 use Rattle.cards.specs.CardLines.{line_of, card_text, at as password_at}

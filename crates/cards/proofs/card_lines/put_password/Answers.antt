@@ -1,11 +1,9 @@
 -- `put_password` meets its promise: the hex, then the words into the rest.
-use mathlib.Core.List.{[], ◌∷◌, ◌++◌}
+use mathlib.Core.List.{[], ◌∷◌}
 use native.Mathlib.Omega.{arith}
 use lib.ListN.{length-append}
-use Rattle.text.specs.PutLaws.{then_put, front_within}
 use Rattle.hex_text.specs.Hex.{hex_of}
 use Rattle.hex_text.specs.Laws.{hex_length}
-use Rattle.sixwords.specs.Spelling.{words_of}
 use Rattle.cards.proofs.card_lines.put_password.Goals as goal
 
 pub put_words_newline-requires : goal.put_words_newline-requires

@@ -2,15 +2,13 @@
 use Prim.Native.Nat.{ℕ}
 use mathlib.Core.Path.{◌≡◌, sym, subst}
 use mathlib.Core.List.{List, [], ◌∷◌, ◌++◌, append_assoc}
-use native.Mathlib.Omega.{arith}
 use Rattle.refusal.specs.declared.Refusal.{Refusal}
 use Rattle.refusal.specs.declared.Listing.{Listing}
 use Rattle.refusal.specs.Numbers.{listing_of}
 use Rattle.text.specs.Put.{Put}
-use Rattle.text.specs.PutLaws.{then_put, front_within}
+use Rattle.text.specs.PutLaws.{then_put}
 use Rattle.text.specs.Quoted.{codes}
 use Rattle.text.specs.Counts.{decimal_of}
-use Rattle.text.specs.CountLaws.{width_few}
 use Rattle.cards.specs.Printed.{refused_text}
 use Rattle.cards.proofs.printed.put_refused.Goals as goal
 

@@ -1,9 +1,8 @@
 -- `walk` meets its promise. The loop's invariant: the places from `i` on are filled, and `x` is what the place before them takes.
 use Prim.Native.Nat.{◌≤◌}
-use mathlib.Core.Path.{refl}
 use native.Mathlib.Omega.{arith}
-use lib.ListN.{length, length-set, replicate}
-use Rattle.cards.proofs.Climb.{none_filled, one_more}
+use lib.ListN.{length, length-set}
+use Rattle.cards.proofs.Climb.{one_more}
 use Rattle.cards.proofs.walk.walk.Goals as goal
 use Rattle.cards.proofs.walk.walk.Goals.{After-step-x}
 

@@ -1,6 +1,5 @@
 -- `is_mark` meets its promise: a short token is compared whole, and a longer one by its first four bytes.
-use mathlib.Core.Path.{sym, ◌∙◌}
-use lib.Seq.{length-take-le}
+use mathlib.Core.Path.{◌∙◌}
 use Rattle.text.specs.Quoted.{codes}
 use Rattle.challenge.specs.Laws.{short_mark, long_mark}
 use Rattle.challenge.proofs.reading.is_mark.Goals as goal

@@ -5,7 +5,6 @@ use mathlib.Core.Bool.{false}
 use mathlib.Core.List.{List}
 use native.Mathlib.Omega.{arith}
 use lib.ListN.{length, take}
-use lib.Seq.{length-take-le}
 use Rattle.text.specs.Quoted.{codes}
 use Rattle.text.specs.Tests.{cases, same}
 use Rattle.challenge.specs.Challenges.{opening}

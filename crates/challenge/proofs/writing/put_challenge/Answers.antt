@@ -7,7 +7,7 @@ use native.Mathlib.Omega.{arith}
 use lib.ListN.{length, length-append}
 use Rattle.text.specs.Kinds.{lower_of}
 use Rattle.text.specs.Quoted.{codes}
-use Rattle.text.specs.PutLaws.{then_put, front_within}
+use Rattle.text.specs.PutLaws.{then_put}
 use Rattle.text.specs.Counts.{decimal_of}
 use Rattle.password.specs.declared.algorithm.Algorithm.{Algorithm}
 use Rattle.password.specs.Algorithm.{algorithm_name}

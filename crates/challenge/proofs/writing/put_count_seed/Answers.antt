@@ -1,11 +1,6 @@
 -- `put_count_seed` meets its promise: the count and the space, then the seed into the rest.
-use mathlib.Core.List.{[], ◌∷◌, ◌++◌, map}
 use native.Mathlib.Omega.{arith}
-use Rattle.text.specs.Kinds.{lower_of}
-use Rattle.text.specs.PutLaws.{then_put, front_within}
-use Rattle.text.specs.Counts.{decimal_of}
 use Rattle.text.specs.CountLaws.{length_count}
-use Rattle.challenge.specs.Challenges.{ending}
 use Rattle.challenge.proofs.writing.put_count_seed.Goals as goal
 
 pub put_seed-requires : goal.put_seed-requires

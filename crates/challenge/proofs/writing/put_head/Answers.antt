@@ -1,8 +1,7 @@
 -- `put_head` meets its promise: the opening, then the name and the space into the rest.
 use mathlib.Core.List.{[], ◌∷◌, ◌++◌}
 use Rattle.text.specs.Quoted.{codes}
-use native.Mathlib.Omega.{arith}
-use Rattle.text.specs.PutLaws.{then_put, front_within}
+use Rattle.text.specs.PutLaws.{then_put}
 use Rattle.password.specs.Algorithm.{algorithm_name}
 use Rattle.challenge.specs.Challenges.{opening}
 use Rattle.challenge.proofs.writing.put_head.Goals as goal

@@ -1,5 +1,5 @@
 -- `trimmed` meets its promise. The loop's invariant: what lies past n is white space, so that the first n bytes have the same last solid one.
-use Prim.Native.Nat.{◌≤◌, ◌-◌}
+use Prim.Native.Nat.{◌≤◌}
 use mathlib.Core.Path.{◌≡◌}
 use lib.ListN.{length, take}
 use Rattle.extended.specs.Parameters as spec

@@ -1,10 +1,6 @@
 -- `put_count_seed_new` meets its promise: the count and the space, then the seed and the password into the rest.
-use mathlib.Core.List.{[], ◌∷◌, ◌++◌}
 use native.Mathlib.Omega.{arith}
-use Rattle.text.specs.PutLaws.{then_put, front_within}
-use Rattle.text.specs.Counts.{decimal_of}
 use Rattle.text.specs.CountLaws.{length_count, width_few}
-use Rattle.extended.specs.ReplyWriting.{password_text}
 use Rattle.extended.proofs.reply_writer.put_count_seed_new.Goals as goal
 
 pub put_seed_new-requires : goal.put_seed_new-requires

@@ -2,7 +2,7 @@
 use mathlib.Core.List.{[], ◌∷◌, ◌++◌}
 use native.Mathlib.Omega.{arith}
 use lib.ListN.{length-append}
-use Rattle.text.specs.PutLaws.{then_put, front_within}
+use Rattle.text.specs.PutLaws.{then_put}
 use Rattle.extended.specs.ReplyTypes.{type_name}
 use Rattle.extended.specs.ReplyWriting.{password_text, login_text}
 use Rattle.extended.specs.ReplyWritingLaws.{type_few}

@@ -1,5 +1,4 @@
 -- `six_words` meets its promise. The loop's invariant: `k` tokens up to `at` are words, and stand packed in `words`.
-use Prim.Native.Nat.{◌-◌}
 use native.Mathlib.Omega.{arith}
 use lib.ListN.{length-drop}
 use Rattle.reply.proofs.typed_words.TokensRead.{scanned_none, white_within, token_within, turned, stopped, six_are, seventh, none_six, all_six}

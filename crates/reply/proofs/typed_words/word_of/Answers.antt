@@ -1,13 +1,11 @@
 -- `word_of` meets its promise. The loop's invariant: what is left decides whether all are letters, and makes the number with those passed.
-use borrow.Author.Rules.{rules}
-use mathlib.Core.Path.{◌≡◌, refl, sym, ◌∙◌, ap}
+use mathlib.Core.Path.{sym, ◌∙◌, ap}
 use Prim.Native.Nat.{ℕ, ◌-◌, ◌+◌, ◌*◌}
 use native.Mathlib.Omega.{arith}
-use lib.ListN.{length, get_or, drop}
-use Rattle.text.specs.Kinds.{is_letter}
+use lib.ListN.{get_or, drop}
 use Rattle.dictionary.specs.Dictionary.{number_from}
 use Rattle.reply.specs.Reply.{upper_text}
-use Rattle.reply.proofs.typed_words.TypedLetters.{none_left_every, none_left_number, letter_grows, four_fit, other_byte, letter_byte, letter_number, letter_upper, empty_other, long_other, mixed_other, letters_word}
+use Rattle.reply.proofs.typed_words.TypedLetters.{none_left_every, none_left_number, letter_grows, other_byte, letter_byte, letter_number, letter_upper, empty_other, long_other, mixed_other, letters_word}
 use Rattle.reply.proofs.typed_words.word_of.Goals as goal
 
 pub returns-then-n-eq0 : goal.returns-then-n-eq0

@@ -1,5 +1,4 @@
 -- `place_of` meets its promise: the first i rooms have other ids.
-use Prim.Native.Nat.{◌-◌}
 use mathlib.Core.Path.{◌≡◌}
 use borrow.Author.Rules.{rules}
 use borrow.Author.Tests.{eq-eqb, ne_eqb}

@@ -1,6 +1,5 @@
 -- `number` meets its promise. The loop's invariant: the number so far, continued by the digits left, is the whole.
-use Prim.Native.Nat.{◌-◌}
-use mathlib.Core.Path.{refl, sym, ◌∙◌, ap}
+use mathlib.Core.Path.{sym, ◌∙◌, ap}
 use native.Mathlib.Omega.{arith}
 use lib.ListN.{drop_of_length-le}
 use Rattle.text.specs.Digits.{number_after}

@@ -1,7 +1,7 @@
 -- `put_count_and` meets its promise: as many digits as the count has, then the byte past them.
 use native.Mathlib.Omega.{arith}
 use Rattle.text.specs.Put.{Put}
-use Rattle.text.specs.PutLaws.{then_byte, front_within}
+use Rattle.text.specs.PutLaws.{then_byte}
 use Rattle.text.specs.Counts.{decimal_of}
 use Rattle.text.specs.CountLaws.{length_decimal}
 use Rattle.text.proofs.counts.put_count_and.Goals as goal

@@ -1,7 +1,7 @@
 -- `spell` meets its promise. The loop's invariant: the digits left to write, before what lies from `i` on, make the text and what lies past it.
 use mathlib.Core.Path.{◌≡◌}
 use mathlib.Core.List.{◌++◌}
-use Prim.Native.Nat.{◌≤◌, ◌-◌, ◌+◌}
+use Prim.Native.Nat.{◌≤◌}
 use lib.ListN.{length, drop}
 use Rattle.text.specs.Digits.{digits_of}
 use Rattle.text.proofs.put.spell.Given as goal

@@ -1,4 +1,4 @@
-use Rattle.std.proofs.Common.{◌≡◌, ℕ, not, eqb, arith, sym, ap, eq-eqb, ne_eqb, get_or}
+use Rattle.std.proofs.Common.{not, eqb, arith, ap, eq-eqb, ne_eqb}
 use Rattle.text.specs.ScanLaws.{run_past, run_goes_on, run_ends}
 use Rattle.text.proofs.scan.find.Goals as goal
 

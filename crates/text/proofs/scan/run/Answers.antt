@@ -1,6 +1,5 @@
 -- `run` meets its promise. The loop's invariant: the run from `at` on is the bytes passed and the run from `i` on.
 use mathlib.Core.Path.{sym, ◌∙◌}
-use Prim.Native.Nat.{◌-◌}
 use native.Mathlib.Omega.{arith}
 use Rattle.text.specs.Kinds.{of_kind}
 use Rattle.text.specs.ScanLaws.{run_past, run_goes_on, run_ends}
