@@ -13,6 +13,10 @@ WIDEST = 160
 IMPORT = re.compile(r"^((?:ghost |pub )?use )([^\s;{]+?)(?:\.\{([^}]*)\})?(?: as ([^\s;]+))?(;?)$", re.M)
 
 
+# A trait of the kit's library is imported for its methods, by which it is used.
+METHODS = {"Read": ["read", "read_exact", "read_to_end"], "Write": ["write", "write_all", "flush"], "BufRead": ["read_line", "read_until", "lines"]}
+
+
 def sources():
     """The sources, without the copies of them that rt keeps in a crate's folder out/."""
     return sorted(path for part in ("src", "specs", "proofs") for path in (ROOT / "crates").glob(f"*/{part}/**/*") if path.suffix in (".rt", ".antt"))
@@ -28,9 +32,10 @@ def stands(name, body, edge):
 
 
 def used(name, body, edge):
-    """Whether a name, or each part of an operator such as `◌≡◌`, stands in the text."""
+    """Whether a name, each part of an operator such as `◌≡◌`, or a call of a trait's method stands in the text."""
     parts = [part for part in name.split("◌") if part]
-    return stands(name, body, edge) or "◌" in name and all(stands(part, body, edge) for part in parts)
+    called = any(f".{method}(" in body for method in METHODS.get(name, ()))
+    return called or stands(name, body, edge) or "◌" in name and all(stands(part, body, edge) for part in parts)
 
 
 def names_of(listed):

@@ -404,12 +404,14 @@ def drawings():
 
 
 def imports():
-    """A page all of whose imports are used, and three with one that isn't; a line of 160 characters, and one of 161."""
+    """A page all of whose imports are used, and three with one that isn't; a source with a trait's method, and one without; lines of 160 and 161."""
     page = pathlib.Path("Page.antt")
     text = "use a.B.{one, ◌two◌}\nuse a.C as c\n\nthree : one two c.x\nthree = one\n"
     unused = [list(tidy.unused(page, each)) for each in
               (text, text.replace(" c.x", ""), text.replace(" two", ""), text.replace("one two", "ones two").replace("= one", "= 1"))]
-    return [not unused[0], *map(bool, unused[1:]), not list(tidy.wide("x" * 160)), bool(list(tidy.wide("x\n" + "x" * 161)))]
+    trait, source = "use std::io::Read;\n", pathlib.Path("main.rt")
+    return [not unused[0], *map(bool, unused[1:]), not list(tidy.unused(source, trait + "let n = input.read(x)?;")),
+            bool(list(tidy.unused(source, trait + "let n = spread(x);"))), not list(tidy.wide("x" * 160)), bool(list(tidy.wide("x\n" + "x" * 161)))]
 
 
 def names_and_uses():

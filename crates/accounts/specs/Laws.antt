@@ -1,6 +1,7 @@
 -- Laws of older seeds in their places, and of a room's places among all.
 use Rattle.std.specs.Prelude.{ℕ, zero, suc, ◌+◌, ◌-◌, ◌*◌, ◌≤◌, ◌<◌, ◌≡◌, refl, Bool, true, false, cond, List, [], ◌∷◌, ◌++◌, ltb, length, get_or, take, drop}
-use Rattle.std.proofs.Common.{sym, ap, ap₂, ◌∙◌, arith, ltb-true, ltb-false, lt-ltb, le-ltb, length-append, length-drop, take_all, take-take, take_at, drop_at, drop-drop, drop-cons, length-take-le}
+use Rattle.std.proofs.Common.{sym, ap, ap₂, ◌∙◌, arith, ltb-true, ltb-false, lt-ltb, le-ltb, length-append, length-drop, take_all, take-take, take_at}
+use Rattle.std.proofs.Common.{drop_at, drop-drop, drop-cons, length-take-le}
 use Rattle.std.proofs.Math.Seq.{take-nil, drop-append-add}
 use Rattle.std.proofs.lemmas.List.{take-append-le, drop-append-le}
 use Rattle.line.specs.Laws.{all_taken}

@@ -77,7 +77,8 @@ examples =
     (reply_for (codes "85C4 3EE0 3857 765"), refused 33) ∷ []
 
 pub examples_hold : map (λ (e : Asked × Said). said e.0) examples ≡ map (λ (e : Asked × Said). e.1) examples
-unfolding codes run_of Digits.number_after every plain is_count opening algorithm_name same token_at next_at count_at seed_at is_mark has_mark used_by challenge_of
+unfolding codes run_of Digits.number_after every plain is_count opening algorithm_name same token_at next_at count_at seed_at is_mark has_mark used_by
+    challenge_of
     reading_of six_words is_word marks_of found_reading sixteen_digits hex_reading parted unspaced words_in lines words flatten stands_from place_of
     pairs pair_sum whole cut places_of joined all_places number_of
 examples_hold = refl

@@ -1,5 +1,6 @@
 -- R-7, read first, offer afterwards. Reading (`reply_text_of`, for a plain text `reading_of`) looks at no table; Offer (`offer`, and `offer_renewal` for a
--- renewal) takes passwords, and no text. `read_and_offered` and `read_and_renewed` are what a caller does that has a text; `old.reply` and `old.renew` are Reply
+-- renewal) takes passwords, and no text. `read_and_offered` and `read_and_renewed` are what a caller does that has a text; `old.reply` and `old.renew` are
+-- Reply
 -- and Renew as R-6 left them. What each of the two refuses: Demand1; what Offer does to the account: OneStep; to the line: Isolation.
 use Rattle.std.specs.Prelude.{ℕ, ◌^◌, ◌<◌, ◌≡◌, List}
 use Rattle.std.proofs.Common.{sym, ap, ◌∙◌}

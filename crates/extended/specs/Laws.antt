@@ -1,6 +1,7 @@
 -- Laws of parts, of words and of what a text says: what lies within the text.
 use Rattle.std.specs.Prelude.{ℕ, suc, ◌+◌, ◌≤◌, ◌<◌, ◌≡◌, refl, Bool, true, false, cond, not, ◌&&◌, List, [], ◌∷◌, ◌++◌, eqb, leb, length, get_or, take, drop}
-use Rattle.std.proofs.Common.{zero-le, ◌∙◌, ap, ap₂, subst, arith, add-one, length-append, length-drop, drop_of_length-le, drop-cons, ne_eqb, eqb-true, leb-true, leb-false}
+use Rattle.std.proofs.Common.{zero-le, ◌∙◌, ap, ap₂, subst, arith, add-one, length-append, length-drop, drop_of_length-le, drop-cons, ne_eqb, eqb-true}
+use Rattle.std.proofs.Common.{leb-true, leb-false}
 use Rattle.std.proofs.lemmas.Bool.{not-true, eqb-false}
 use Rattle.refusal.specs.declared.Checked.{Checked}
 use Rattle.refusal.specs.declared.Reading.{Reading}

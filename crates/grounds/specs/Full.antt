@@ -61,7 +61,8 @@ unfolding remove
 removed_there id s e = must_good (is_there id s) Refusal.AccountMissing (sym (settled_answer s _ (account_there id s)) ∙ e)
 
 pub removed_room_used : (gone : ℕ) (s : State) → Housed s → (remove gone s).answer ≡ Checked.Good → (id number count : ℕ) (seed password : List ℕ)
-    → in_order (id_given id ∷ count_within count ∷ algorithm_checked (numbered number) ∷ seed_checked seed ∷ id_new id (remove gone s).state ∷ []) ≡ Checked.Good
+    → in_order (id_given id ∷ count_within count ∷ algorithm_checked (numbered number) ∷ seed_checked seed ∷ id_new id (remove gone s).state ∷ [])
+    ≡ Checked.Good
     → (enrol id number count seed password (remove gone s).state).answer ≡ Checked.Good
 removed_room_used gone s h e id number count seed password good =
     enrol_taken id number count seed password (remove gone s).state good (removed_room_left gone s h (removed_there gone s e))

@@ -86,7 +86,8 @@ challenge_given = (
 
 -- 30 to 33: the reader of replies, of plain ones
 reply_given : Each Given (30 ∷ 31 ∷ 32 ∷ 33 ∷ [])
-unfolding reply_text_of said_in colons reading_of six_words is_word marks_of found_reading sixteen_digits hex_reading every parted unspaced Digits.number_after codes
+unfolding reply_text_of said_in colons reading_of six_words is_word marks_of found_reading sixteen_digits hex_reading every parted unspaced
+    Digits.number_after codes
     words_in lines words flatten same Dictionary.stands_from Dictionary.place_of pairs pair_sum Places.joined all_places number_of
 reply_given = (
   Given.reply (replicate 129 97) refl,
@@ -178,7 +179,8 @@ table_given = (
 
 -- 70: the card writer, for no lines
 card_given : Each Given (70 ∷ [])
-unfolding card_written card_checked codes run_of Digits.number_after every plain is_count opening algorithm_name same token_at next_at count_at seed_at challenge_of
+unfolding card_written card_checked codes run_of Digits.number_after every plain is_count opening algorithm_name same token_at next_at count_at seed_at
+    challenge_of
 card_given = (Given.card (replicate 10 97) (codes "otp-md5 9 a ") 0 0 refl, tt)
 
 -- All of them, in the order of the list.

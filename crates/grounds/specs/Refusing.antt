@@ -1,5 +1,6 @@
 -- The refusals of the checks, the readers and the writers go by their rows.
-use Rattle.std.specs.Prelude.{ℕ, ◌+◌, ◌*◌, ◌/◌, ◌≡◌, refl, Bool, true, false, cond, not, ◌&&◌, ◌||◌, List, [], ◌∷◌, ◌++◌, map, eqb, leb, ltb, length, take, drop}
+use Rattle.std.specs.Prelude.{ℕ, ◌+◌, ◌*◌, ◌/◌, ◌≡◌, refl, Bool, true, false, cond, not, ◌&&◌, ◌||◌, List, [], ◌∷◌, ◌++◌, map, eqb, leb, ltb, length, take}
+use Rattle.std.specs.Prelude.{drop}
 use Rattle.std.proofs.Common.{arith, sym, ap, ap₂, ◌∙◌, subst, lt-ltb, le-ltb, ltb-true, ltb-false, leb-true, leb-false}
 use Rattle.std.proofs.lemmas.Bool.{false≢true}
 use Rattle.std.proofs.Math.Bool.{not-not}
@@ -474,7 +475,8 @@ typed_rows kind text = go (is_init kind)
         (then_check (read_checked new) (read_checked present) _ _ (part_rows_lem kind (part_at text (new_at text)))
         (λ e. part_rows_lem kind (part_at text (present_at text))))
     go false =
-        subst (λ (c : Checked). Follows c (part_rows kind (part_at text (present_at text)))) (as_login present) (part_rows_lem kind (part_at text (present_at text)))
+        subst (λ (c : Checked). Follows c (part_rows kind (part_at text (present_at text)))) (as_login present)
+        (part_rows_lem kind (part_at text (present_at text)))
 
 extended_rows_lem : (text : List ℕ) → Follows (text_checked (read_to (extended_of text)))
     (((30, ltb 256 (length text)) ∷ (34, not (is_type (part_at text 0))) ∷ (35, not (eqb (colons text) (colons_of (type_of text)))) ∷ [])

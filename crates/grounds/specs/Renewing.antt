@@ -83,7 +83,8 @@ renewing_text = codes "init-hex:0000 0000 0000 0005:sha1 3 lift2:" ++ hex_of (ha
 
 pub init_reads :
     (reply_text_of renewing_text ≡ ReplyText.Renewal 2 3 36 5 (hash Algorithm.Sha1 (bytes_of 6)) 5) × (seed_part renewing_text 36 5 ≡ codes "lift2")
-unfolding reply_text_of said_in colons part_at present_at parameters_at new_at password_by renewal_in typed_in layout_checked extended_of word_at word_after trimmed
+unfolding reply_text_of said_in colons part_at present_at parameters_at new_at password_by renewal_in typed_in layout_checked extended_of word_at word_after
+    trimmed
     parameters_of type_name algorithm_name is_count run_of every same codes sixteen_digits hex_reading parted unspaced digits_of Digits.number_after hash fold
     fold_words number_after absorbed Sha1.hash_value Sha1.compressed Sha1.schedule Sha1.longer Sha1.steps Sha1.step Sha1.step_with Sha1.f Sha1.K block_at
     padded_word padded_byte up_to

@@ -32,7 +32,8 @@ use Rattle.reached.specs.Outcome.{TurnGood, turn_good}
 -- ---- from one step
 
 -- What a room holds, its line changed with all lines.
-line_changed : (change : Waiting → Waiting) (rooms : List Held) (k : ℕ) → (get_or (map (lined change) rooms) k free_room).account ≡ (get_or rooms k free_room).account
+line_changed : (change : Waiting → Waiting) (rooms : List Held) (k : ℕ) → (get_or (map (lined change) rooms) k free_room).account
+    ≡ (get_or rooms k free_room).account
 line_changed change [] k = refl
 line_changed change (held ∷ rooms) zero = refl
 line_changed change (held ∷ rooms) (suc k) = line_changed change rooms k

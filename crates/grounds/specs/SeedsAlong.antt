@@ -1,6 +1,7 @@
 -- R-5: of the seeds that an account has one after the other it remembers the last eight, and any nine are different.
 use Rattle.std.specs.Prelude.{ℕ, zero, suc, ◌+◌, ◌-◌, ◌≤◌, ◌<◌, ◌≡◌, refl, Bool, true, false, cond, ◌||◌, length, get_or, take, drop}
-use Rattle.std.proofs.Common.{arith, not-suc-le-zero, le_of_suc-le-suc, sym, ap, ap₂, ◌∙◌, subst, true≢false, length-take, length-drop, drop-cons, get_or-drop, take_all, take-take}
+use Rattle.std.proofs.Common.{arith, not-suc-le-zero, le_of_suc-le-suc, sym, ap, ap₂, ◌∙◌, subst, true≢false, length-take, length-drop, drop-cons}
+use Rattle.std.proofs.Common.{get_or-drop, take_all, take-take}
 use Rattle.std.proofs.Math.Decide.{dec_le}
 use Rattle.std.proofs.Math.Bool.{or-true}
 use mathlib.Core.List.{List, [], ◌∷◌, ◌++◌, reverse, reverse_aux-eq, reverse-cons}

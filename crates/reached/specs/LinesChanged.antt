@@ -1,6 +1,7 @@
 -- All lines of a table together: who is in them, where a port stands, and what a changed line does.
 use Rattle.std.specs.Prelude.{ℕ, zero, suc, ◌≤◌, ◌<◌, ◌-◌, ◌≡◌, refl, Bool, true, false, cond, ◌||◌, List, [], ◌∷◌, ◌++◌, map, eqb, ltb, length, get_or, set}
-use Rattle.std.proofs.Common.{zero-le, suc-le-suc, sym, ap, ap₂, ◌∙◌, subst, true≢false, arith, not-suc-le-zero, le_of_suc-le-suc, eq-eqb, ne_eqb, eqb-true, lt-ltb}
+use Rattle.std.proofs.Common.{zero-le, suc-le-suc, sym, ap, ap₂, ◌∙◌, subst, true≢false, arith, not-suc-le-zero, le_of_suc-le-suc, eq-eqb, ne_eqb, eqb-true}
+use Rattle.std.proofs.Common.{lt-ltb}
 use Rattle.std.proofs.lemmas.Bool.{false≢true, eqb-false}
 use Rattle.std.proofs.Math.Option
 use Rattle.std.proofs.Math.Option.{Option}

@@ -7,7 +7,7 @@ use Rattle.line.specs.Line.{stands_in}
 use Rattle.accounts.specs.Rooms.{Room, remembered}
 use Rattle.table.specs.Table.{State, free_room, place_of, holds, is_there, line_of, port_of, waits, own_account, has_turn, with_room, with_account}
 use Rattle.table.specs.Steps as Steps
-use Rattle.table.specs.Steps.{After, enrol_checked, join_checked, leave_checked, turn_checked, compared}
+use Rattle.table.specs.Steps.{join_checked, turn_checked}
 use Rattle.reached.specs.Calls.{Call}
 use Rattle.reached.specs.InTurn.{tick_of, quiet, keeps_algorithm, elsewhere}
 use Rattle.reached.specs.Made.{AccountGood}

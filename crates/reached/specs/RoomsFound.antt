@@ -135,7 +135,8 @@ unfolding accounts_in times
 accounts_free [] = refl
 accounts_free (x ∷ l) = by (eqb x.account.id 0) (accounts_free l)
   where
-    by : (b : Bool) → accounts_in l + times 0 l ≡ length l → cond b (accounts_in l) (suc (accounts_in l)) + cond b (suc (times 0 l)) (times 0 l) ≡ suc (length l)
+    by : (b : Bool) → accounts_in l + times 0 l ≡ length l → cond b (accounts_in l) (suc (accounts_in l)) + cond b (suc (times 0 l)) (times 0 l)
+        ≡ suc (length l)
     by true e = omega arith
     by false e = omega arith
 
@@ -221,7 +222,8 @@ found_placed id l x e = by (holds id l) refl (sym (account_by_lem id l) ∙ e)
 pub found_is : (id : ℕ) (l : List Held) (x : Held) → account_by id l ≡ some x → get_or l (place_of id l) free_room ≡ x
 found_is id l x e =
     some-injective (get_or l (place_of id l) free_room) x
-    (sym (account_by_lem id l ∙ ap (λ (b : Bool). cond b (some (get_or l (place_of id l) free_room)) none) (lt-ltb (place_of id l) (length l) (found_placed id l x e)))
+    (sym (account_by_lem id l
+    ∙ ap (λ (b : Bool). cond b (some (get_or l (place_of id l) free_room)) none) (lt-ltb (place_of id l) (length l) (found_placed id l x e)))
     ∙ e)
 
 -- With no account to be found there is none.

@@ -74,7 +74,9 @@ examples = (
     ("FOWL KID MASH DEAD DUAL OAF", ReplyText.Login 0x85c4_3ee0_3857_765b) ∷ []
 
 pub examples_read : map (λ (e : Example). reply_text_of (codes e.0)) examples ≡ map (λ (e : Example). e.1) examples
-unfolding reply_text_of said_in extended_of layout_checked typed_in renewal_in password_by parameters_of type_name part_at present_at parameters_at new_at colons
-    word_at word_after trimmed algorithm_name is_count run_of reading_of six_reading six_words is_word marks_of found_reading sixteen_digits hex_reading every parted
+unfolding reply_text_of said_in extended_of layout_checked typed_in renewal_in password_by parameters_of type_name part_at present_at parameters_at new_at
+    colons
+    word_at word_after trimmed algorithm_name is_count run_of reading_of six_reading six_words is_word marks_of found_reading sixteen_digits hex_reading
+    every parted
     unspaced number_after codes words_in lines words flatten same stands_from place_of pairs pair_sum joined all_places number_of
 examples_read = refl

@@ -75,7 +75,8 @@ module _ (v w : List ℕ) (i high low : ℕ) (inside : 2 * i + 1 < length w) (fi
   unfolding bytes_in
   next_paired h l =
       let kept : drop (2 * (i + 1)) (set w i (high * 16 + low)) ≡ drop (2 * (i + 1)) w = drop-set-lt (2 * (i + 1)) w i (high * 16 + low) (omega arith) in
-      let byte : digit_value a * 16 + digit_value b ≡ high * 16 + low = ap₂ (λ (x y : ℕ). x * 16 + y) (digit_value_lem a high first h) (digit_value_lem b low second l) in
+      let byte : digit_value a * 16 + digit_value b
+      ≡ high * 16 + low = ap₂ (λ (x y : ℕ). x * 16 + y) (digit_value_lem a high first h) (digit_value_lem b low second l) in
       record {
         same_length = length-set w i (high * 16 + low) ∙ p.same_length;
         digits =

@@ -53,7 +53,8 @@ module _ (base most n : ℕ) (w : List ℕ) (i d : ℕ) (inside : i < length w) 
       let yes : is_digit_of base (get_or w i 0) ≡ true = ap (λ (v : ℕ). ltb v base) (sym read) ∙ lt-ltb d base h in
       let s = drop (suc i) w in
       ap (number_from base most n) (drop-cons w i 0 inside)
-      ∙ ap₂ (λ (t : Bool) (m : ℕ). cond ((t && every (is_digit_of base) s) && leb (number_after base m s) most) (Number.Is (number_after base m s)) Number.Bad) yes
+      ∙ ap₂ (λ (t : Bool) (m : ℕ). cond ((t && every (is_digit_of base) s) && leb (number_after base m s) most)
+      (Number.Is (number_after base m s)) Number.Bad) yes
       (ap (λ (v : ℕ). n * base + v) (digit_value_lem (get_or w i 0) d read (omega arith)))
       ∙ ap (λ (k : ℕ). number_from base most (n * base + d) (drop k w)) (sym (add-one i))
 

@@ -128,7 +128,8 @@ module _ (port : ℕ) (s : State) where
   pub turn_passed : turn_checked port s ≡ Checked.Good → TurnPassed port s
   unfolding turn_checked
   turn_passed e =
-      let found = each_good (port_known port ∷ in_line port s ∷ in_front port s ∷ account_held (own_account port s) ∷ not_used_up (own_account port s) ∷ []) e in
+      let found = each_good (port_known port ∷ in_line port s ∷ in_front port s ∷ account_held (own_account port s) ∷ not_used_up (own_account port s) ∷ [])
+      e in
       record {
         known = must_good _ _ found.0;
         inside = must_good _ _ found.1.0;

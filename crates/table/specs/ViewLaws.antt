@@ -124,7 +124,8 @@ module _ (lines : ℕ → Waiting) (parts parts' : ℕ → List ℕ) where
       (held_parts (suc k) l (λ room h. f room (omega arith)))
 
   -- A line doesn't go by them.
-  held_line_same : (k : ℕ) (l : List Account) (i : ℕ) → (get_or (held_from k l parts' lines) i free_room).line ≡ (get_or (held_from k l parts lines) i free_room).line
+  held_line_same : (k : ℕ) (l : List Account) (i : ℕ) → (get_or (held_from k l parts' lines) i free_room).line
+      ≡ (get_or (held_from k l parts lines) i free_room).line
   unfolding held_from
   held_line_same k [] i = refl
   held_line_same k (a ∷ l) zero = refl

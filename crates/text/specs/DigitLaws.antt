@@ -1,6 +1,8 @@
 -- Laws of digits: each stands for what it is written for, and so do several.
-use Rattle.std.specs.Prelude.{ℕ, zero, suc, ◌+◌, ◌-◌, ◌*◌, ◌/◌, ◌%◌, ◌^◌, ◌≤◌, ◌<◌, ◌≡◌, refl, Bool, true, false, cond, ◌&&◌, ◌||◌, List, [], ◌∷◌, ◌++◌, map, length, take, drop, set, leb, ltb}
-use Rattle.std.proofs.Common.{sym, ◌∙◌, ap, ap₂, append-nil, arith, add-zero, add-suc, suc-add, mul-one, mul_assoc, mod-lt, div-lt_iff_lt-mul, div-add-mod', pow-suc, add-one, length-append, drop_at, length-take-le, lt-ltb, le-ltb, le-leb, leb-true, leb-false, ltb-true, ltb-false}
+use Rattle.std.specs.Prelude.{ℕ, zero, suc, ◌+◌, ◌-◌, ◌*◌, ◌/◌, ◌%◌, ◌^◌, ◌≤◌, ◌<◌, ◌≡◌, refl, Bool, true, false, cond, ◌&&◌, ◌||◌, List, [], ◌∷◌, ◌++◌, map}
+use Rattle.std.specs.Prelude.{length, take, drop, set, leb, ltb}
+use Rattle.std.proofs.Common.{sym, ◌∙◌, ap, ap₂, append-nil, arith, add-zero, add-suc, suc-add, mul-one, mul_assoc, mod-lt, div-lt_iff_lt-mul, div-add-mod'}
+use Rattle.std.proofs.Common.{pow-suc, add-one, length-append, drop_at, length-take-le, lt-ltb, le-ltb, le-leb, leb-true, leb-false, ltb-true, ltb-false}
 use Rattle.std.proofs.Math.Nat.{pow-succ', pow-zero}
 use Rattle.std.proofs.Math.Seq.{append_snoc}
 use Rattle.std.proofs.lemmas.List.{set_split}

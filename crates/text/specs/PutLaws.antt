@@ -1,6 +1,7 @@
 -- Laws of a text at the front of a buffer: two texts one after the other, and a text that grows byte by byte.
 use Rattle.std.specs.Prelude.{ℕ, suc, ◌+◌, ◌-◌, ◌≤◌, ◌<◌, ◌≡◌, refl, List, [], ◌∷◌, ◌++◌, length, get_or, take, drop, set, Bool, true, false, cond, leb}
-use Rattle.std.proofs.Common.{sym, ◌∙◌, ap, ap₂, append_assoc, append-nil, arith, add-one, length-append, length-drop, drop_of_length-le, take_all, take_at, drop_at, drop-drop, drop-cons, take-suc, length-take-le, le-leb}
+use Rattle.std.proofs.Common.{sym, ◌∙◌, ap, ap₂, append_assoc, append-nil, arith, add-one, length-append, length-drop, drop_of_length-le, take_all, take_at}
+use Rattle.std.proofs.Common.{drop_at, drop-drop, drop-cons, take-suc, length-take-le, le-leb}
 use Rattle.std.proofs.lemmas.List.{set_at}
 use Rattle.std.proofs.Math.Seq.{append_snoc}
 use borrow.Rule.Slice.PartMut.{mid_of, put_mid}

@@ -1,6 +1,7 @@
 -- Laws of runs and tokens.
 use Rattle.std.specs.Prelude.{ℕ, suc, ◌+◌, ◌≤◌, ◌<◌, ◌≡◌, refl, Bool, true, false, cond, not, ◌&&◌, List, [], ◌∷◌, ◌++◌, length, get_or, take, drop, eqb}
-use Rattle.std.proofs.Common.{zero-le, suc-le-suc, sym, ◌∙◌, ap, ap₂, append-nil, arith, add-one, length-take, length-drop, drop_of_length-le, length-take-le, drop-cons}
+use Rattle.std.proofs.Common.{zero-le, suc-le-suc, sym, ◌∙◌, ap, ap₂, append-nil, arith, add-one, length-take, length-drop, drop_of_length-le}
+use Rattle.std.proofs.Common.{length-take-le, drop-cons}
 use Rattle.std.proofs.Math.Seq.{append_snoc, take-length, drop-length, take-append_seam, drop-append_seam}
 use Rattle.std.proofs.Math.Dec.{eqb-suc-suc, eqb-zero-suc}
 use Rattle.std.proofs.lemmas.Bool.{not-true}
@@ -14,7 +15,8 @@ unfolding run_of
 run_past test s i h = ap (run_of test) (drop_of_length-le s h)
 
 -- a byte that passes the test makes the run one longer
-pub run_goes_on : (test : ℕ → Bool) (s : List ℕ) (i : ℕ) → i < length s → test (get_or s i 0) ≡ true → run_of test (drop i s) ≡ suc (run_of test (drop (i + 1) s))
+pub run_goes_on : (test : ℕ → Bool) (s : List ℕ) (i : ℕ) → i < length s → test (get_or s i 0) ≡ true → run_of test (drop i s)
+    ≡ suc (run_of test (drop (i + 1) s))
 unfolding run_of
 run_goes_on test s i h e = rw (drop-cons s i 0, e, add-one)
 

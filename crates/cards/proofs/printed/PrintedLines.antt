@@ -28,7 +28,8 @@ module _ (phrase challenge : List ℕ) (k : ℕ) where
   answered (Checked.Refused why) e = ap (λ (c : Checked). unless Written.Refused c (written_of 5148 (card_of phrase challenge k))) e
 
   -- the card that was written
-  pub wrote_card : (n : ℕ) (b b' : List ℕ) → Written.Wrote n ≡ card_written phrase challenge k 5148 → b' ≡ leaves (Written.Wrote n) (card_of phrase challenge k) b
+  pub wrote_card : (n : ℕ) (b b' : List ℕ) → Written.Wrote n ≡ card_written phrase challenge k 5148 → b'
+      ≡ leaves (Written.Wrote n) (card_of phrase challenge k) b
       → Put (printed_card phrase challenge k) b b' n
   unfolding printed_card
   wrote_card n b b' e l = by (card_checked phrase challenge k) refl

@@ -23,7 +23,11 @@ write_from-requires c = let a = asked (goal.at.write_from-requires c).In-Card in
 
 pub returns-in-Card : goal.returns-in-Card
 returns-in-Card c =
-    let a = c.args in record { answered = c.write_from.ensures.0 ∙ sym (written a.phrase.now a.challenge.now a.lines (asked (goal.at.returns-in-Card c).In-Card).0 (length a.buf.now)); left = c.write_from.ensures.1 }
+    let a = c.args in record {
+      answered = c.write_from.ensures.0
+          ∙ sym (written a.phrase.now a.challenge.now a.lines (asked (goal.at.returns-in-Card c).In-Card).0 (length a.buf.now));
+      left = c.write_from.ensures.1;
+    }
 
 pub returns-in-Refused : goal.returns-in-Refused
 returns-in-Refused c =

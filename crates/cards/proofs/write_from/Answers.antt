@@ -44,7 +44,8 @@ returns-in-Password c =
     let a = c.args in
     subst (λ (t : List ℕ). Writes t a.buf.now c.write_walked.new.buf c.write_walked.result)
     (card_from a.phrase.now a.challenge.now a.k a.algorithm a.n c.requires.algorithm_value c.requires.k_value.1)
-    (c.write_walked.ensures a.phrase.now (seed_of a.challenge.now) (same_password (sym c.in-Password.is ∙ lowest (goal.at.returns-in-Password c).After-password_at)))
+    (c.write_walked.ensures a.phrase.now (seed_of a.challenge.now)
+    (same_password (sym c.in-Password.is ∙ lowest (goal.at.returns-in-Password c).After-password_at)))
 
 pub returns-in-Refused : goal.returns-in-Refused
 returns-in-Refused c = never _ _ (sym c.in-Refused.is ∙ lowest (goal.at.returns-in-Refused c).After-password_at)

@@ -34,10 +34,18 @@ loop-i-init c = (omega arith, omega arith, sym (found_none c.args.port))
 
 pub loop-i-preserved-then-place-port : goal.loop-i-preserved-then-place-port
 loop-i-preserved-then-place-port c =
-    let at = c.loop-i in
-    (omega arith, omega arith, ap (λ (b : Bool). cond b c.room_in-room.result at.found) (sym c.if-place-port.true) ∙ next (goal.at.loop-i-preserved-then-place-port c).After-struct_known-1)
+    let at = c.loop-i in (
+      omega arith,
+      omega arith,
+      ap (λ (b : Bool). cond b c.room_in-room.result at.found) (sym c.if-place-port.true)
+          ∙ next (goal.at.loop-i-preserved-then-place-port c).After-struct_known-1,
+    )
 
 pub loop-i-preserved : goal.loop-i-preserved
 loop-i-preserved c =
-    let at = c.loop-i in
-    (omega arith, omega arith, ap (λ (b : Bool). cond b c.room_in-room.result at.found) (sym c.if-place-port.false) ∙ next (goal.at.loop-i-preserved c).After-struct_known-1)
+    let at = c.loop-i in (
+      omega arith,
+      omega arith,
+      ap (λ (b : Bool). cond b c.room_in-room.result at.found) (sym c.if-place-port.false)
+          ∙ next (goal.at.loop-i-preserved c).After-struct_known-1,
+    )

@@ -30,10 +30,20 @@ inside c good =
     let found = c.turn_of.ensures a.older.now in
     let stands = ltb-true (stands_at a.port s.rooms) (length s.rooms)
     (turn_passed a.port s (sym (ap (λ (t : Seen). t.checked) found) ∙ good)).inside in
-    omega (arith, stands, ap (λ (t : Seen). t.place) found, rooms-32 a.table a.older.now (let all_rooms : length c.args.table.rooms ≡ 32 = search (rules, unmapped) in all_rooms))
+    omega (
+      arith,
+      stands,
+      ap (λ (t : Seen). t.place) found,
+      rooms-32 a.table a.older.now (let all_rooms : length c.args.table.rooms ≡ 32 = search (rules, unmapped) in all_rooms),
+    )
 
 pub renewed-made-requires : goal.renewed-made-requires
-renewed-made-requires c = record { place_bound = inside (goal.at.renewed-made-requires c).After-turn_of; older_len = all_older (goal.at.renewed-made-requires c).After-renewed-arg-1 }
+renewed-made-requires c =
+    record {
+      place_bound = inside (goal.at.renewed-made-requires c).After-turn_of;
+      older_len = all_older
+          (goal.at.renewed-made-requires c).After-renewed-arg-1;
+    }
 
 pub returns : goal.returns
 returns c =

@@ -10,7 +10,8 @@ use Rattle.accounts.proofs.remembered.is_in.Given as goal
 
 abbrev pub invariant-loop-i : goal.invariant-loop-i
 invariant-loop-i l =
-    (l.i ≤ l.n) × (is_one_of (map lower_of l.seed) (in_places l.n l.places) ≡ is_one_of (map lower_of l.seed) (in_places (l.n - l.i) (drop (l.i * 17) l.places)))
+    (l.i ≤ l.n) × (is_one_of (map lower_of l.seed) (in_places l.n l.places)
+    ≡ is_one_of (map lower_of l.seed) (in_places (l.n - l.i) (drop (l.i * 17) l.places)))
 
 abbrev pub decreases-loop-i : goal.decreases-loop-i
 decreases-loop-i l = l.n - l.i

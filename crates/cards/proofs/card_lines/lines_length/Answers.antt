@@ -37,4 +37,8 @@ unfolding card_text
 loop-i-init c = (omega arith, omega arith, refl)
 
 pub loop-i-preserved : goal.loop-i-preserved
-loop-i-preserved c = (omega arith, omega (arith, few (goal.at.loop-i-preserved c).After-words_length), omega (arith, grown (goal.at.loop-i-preserved c).After-words_length))
+loop-i-preserved c = (
+  omega arith,
+  omega (arith, few (goal.at.loop-i-preserved c).After-words_length),
+  omega (arith, grown (goal.at.loop-i-preserved c).After-words_length),
+)

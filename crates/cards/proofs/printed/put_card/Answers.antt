@@ -23,7 +23,8 @@ returns-in-Wrote c =
     let a = c.args in
     let told = c.in-Wrote.is in
     wrote_card a.phrase.now a.challenge.now a.lines _ a.buf.now _
-    (sym told ∙ answered (goal.at.returns-in-Wrote c).After-write_card) (c.write_card.ensures.left ∙ ap (λ (r : Written). leaves r ((card_of c.args.phrase.now c.args.challenge.now c.args.lines)) a.buf.now) told)
+    (sym told ∙ answered (goal.at.returns-in-Wrote c).After-write_card)
+    (c.write_card.ensures.left ∙ ap (λ (r : Written). leaves r ((card_of c.args.phrase.now c.args.challenge.now c.args.lines)) a.buf.now) told)
 
 pub returns-in-Refused : goal.returns-in-Refused
 returns-in-Refused c =

@@ -21,14 +21,28 @@ ends : (c : After-token-said) → c.next-mark.result + length c.token-said.resul
 ends c = ap₂ (λ (k : ℕ) (t : List ℕ). k + length t) c.next-mark.ensures (said c)
 
 end_within : (c : After-token-said) → c.next-mark.result + length c.token-said.result.now ≤ length c.args.text.now
-end_within c = omega (arith, ap length c.token-said.ensures, token_within c.args.text.now c.next-mark.result (let mark_within : c.next-mark.result ≤ length c.args.text.now = omega (arith, c.next-mark.ensures, next_within c.args.text.now c.args.start c.requires) in mark_within))
+end_within c = omega (
+  arith,
+  ap length c.token-said.ensures,
+  token_within c.args.text.now c.next-mark.result
+      (let mark_within : c.next-mark.result ≤ length c.args.text.now = omega
+      (arith, c.next-mark.ensures, next_within c.args.text.now c.args.start c.requires) in mark_within),
+)
 
 flag : (c : After-is_terminated)
     → (c.is_mark.result && c.is_terminated.result) ≡ has_mark c.args.text.now c.args.start
 unfolding has_mark
 flag c =
-    ap₂ (λ (a b : Bool). a && b) (c.is_mark.ensures ∙ ap is_mark (let said : c.token-said.result.now ≡ token_at c.args.text.now (mark_at c.args.text.now c.args.start) = c.token-said.ensures ∙ ap (token_at c.args.text.now) c.next-mark.ensures in said))
-    (c.is_terminated.ensures ∙ ap (λ (k : ℕ). terminated (drop k c.args.text.now)) (let ends : c.next-mark.result + length c.token-said.result.now ≡ end_of c.args.text.now (mark_at c.args.text.now c.args.start) = ap₂ (λ (k : ℕ) (t : List ℕ). k + length t) c.next-mark.ensures (let said : c.token-said.result.now ≡ token_at c.args.text.now (mark_at c.args.text.now c.args.start) = c.token-said.ensures ∙ ap (token_at c.args.text.now) c.next-mark.ensures in said) in ends))
+    ap₂ (λ (a b : Bool). a && b)
+    (c.is_mark.ensures ∙ ap is_mark
+    (let said : c.token-said.result.now ≡ token_at c.args.text.now (mark_at c.args.text.now c.args.start) = c.token-said.ensures
+    ∙ ap (token_at c.args.text.now) c.next-mark.ensures in said))
+    (c.is_terminated.ensures
+    ∙ ap (λ (k : ℕ). terminated (drop k c.args.text.now))
+    (let ends : c.next-mark.result + length c.token-said.result.now
+    ≡ end_of c.args.text.now (mark_at c.args.text.now c.args.start) = ap₂ (λ (k : ℕ) (t : List ℕ). k + length t) c.next-mark.ensures
+    (let said : c.token-said.result.now ≡ token_at c.args.text.now (mark_at c.args.text.now c.args.start) = c.token-said.ensures
+    ∙ ap (token_at c.args.text.now) c.next-mark.ensures in said) in ends))
 
 pub token-said-requires : goal.token-said-requires
 token-said-requires c = mark_within (goal.at.token-said-requires c).After-next-mark
@@ -38,7 +52,8 @@ overflow_add-end c = omega (arith, end_within (goal.at.overflow_add-end c).After
 
 pub returns-then-is_mark-is_terminated : goal.returns-then-is_mark-is_terminated
 unfolding mark_end
-returns-then-is_mark-is_terminated c = rw (sym (flag (goal.at.returns-then-is_mark-is_terminated c).After-is_terminated) ∙ c.if-is_mark-is_terminated.true) (ends (goal.at.returns-then-is_mark-is_terminated c).After-token-said)
+returns-then-is_mark-is_terminated c = rw (sym (flag (goal.at.returns-then-is_mark-is_terminated c).After-is_terminated) ∙ c.if-is_mark-is_terminated.true)
+    (ends (goal.at.returns-then-is_mark-is_terminated c).After-token-said)
 
 pub returns : goal.returns
 unfolding mark_end

@@ -11,7 +11,8 @@ use Rattle.challenge.specs.Laws.{next_within}
 use Rattle.challenge.proofs.reading.next.Goals as goal
 use Rattle.challenge.proofs.reading.next.Goals.{After-run}
 
-past : (text token : List ℕ) (at n : ℕ) → token ≡ token_at text at → n ≡ run_of is_blank (drop (at + length token) text) → at + length token + n ≡ next_at text at
+past : (text token : List ℕ) (at n : ℕ) → token ≡ token_at text at → n ≡ run_of is_blank (drop (at + length token) text) → at + length token + n
+    ≡ next_at text at
 unfolding next_at
 past text token at n e f =
     ap (λ (k : ℕ). at + length token + k) f

@@ -23,23 +23,35 @@ known : (c : In-Is) → named (token_at (c.args.text.now) 4) ≡ Named.Is c.in-I
 known c = sym c.algorithm_from.ensures ∙ c.in-Is.is
 
 long : (c : In-Is) → 4 ≤ length (c.args.text.now)
-long c = opened_long (c.args.text.now) (let opened : same (take 4 c.args.text.now) opening ≡ true = sym c.is_opened.ensures ∙ c.if-not-is_opened.false in opened)
+long c = opened_long (c.args.text.now)
+    (let opened : same (take 4 c.args.text.now) opening ≡ true = sym c.is_opened.ensures ∙ c.if-not-is_opened.false in opened)
 
 at_count : (c : After-next-at) → c.next-at.result ≡ count_at (c.args.text.now)
 unfolding count_at
 at_count c = c.next-at.ensures
 
 count_within_lem : (c : After-next-at) → c.next-at.result ≤ length (c.args.text.now)
-count_within_lem c = omega (arith, c.next-at.ensures, next_within (c.args.text.now) 4 (let long : 4 ≤ length (c.args.text.now) = opened_long (c.args.text.now) (let opened : same (take 4 c.args.text.now) opening ≡ true = sym c.is_opened.ensures ∙ c.if-not-is_opened.false in opened) in long))
+count_within_lem c = omega (
+  arith,
+  c.next-at.ensures,
+  next_within (c.args.text.now) 4
+      (let long : 4 ≤ length (c.args.text.now) = opened_long (c.args.text.now)
+      (let opened : same (take 4 c.args.text.now) opening ≡ true = sym c.is_opened.ensures ∙ c.if-not-is_opened.false in opened) in long),
+)
 
 counted : (c : After-count_from) → c.count_from.result ≡ counted_of (token_at ((c.args.text.now)) (count_at ((c.args.text.now))))
 unfolding count_at
-counted c = c.count_from.ensures ∙ ap (λ (at : ℕ). counted_of (token_at ((c.args.text.now)) at)) (let at_count : c.next-at.result ≡ count_at (c.args.text.now) = c.next-at.ensures in at_count)
+counted c = c.count_from.ensures
+    ∙ ap (λ (at : ℕ). counted_of (token_at ((c.args.text.now)) at))
+    (let at_count : c.next-at.result ≡ count_at (c.args.text.now) = c.next-at.ensures in at_count)
 
 good_count : (c : In-Is-count_from) → (is_count (token_at ((c.args.text.now)) (count_at ((c.args.text.now)))) ≡ true)
     × (number_of 10 (token_at ((c.args.text.now)) (count_at ((c.args.text.now)))) ≡ c.in-Is-count_from.count)
 unfolding count_at
-good_count c = is_read _ _ (sym (let counted : c.count_from.result ≡ counted_of (token_at ((c.args.text.now)) (count_at ((c.args.text.now)))) = c.count_from.ensures ∙ ap (λ (at : ℕ). counted_of (token_at ((c.args.text.now)) at)) (let at_count : c.next-at.result ≡ count_at (c.args.text.now) = c.next-at.ensures in at_count) in counted) ∙ c.in-Is-count_from.is)
+good_count c = is_read _ _
+    (sym (let counted : c.count_from.result ≡ counted_of (token_at ((c.args.text.now)) (count_at ((c.args.text.now)))) = c.count_from.ensures
+    ∙ ap (λ (at : ℕ). counted_of (token_at ((c.args.text.now)) at))
+    (let at_count : c.next-at.result ≡ count_at (c.args.text.now) = c.next-at.ensures in at_count) in counted) ∙ c.in-Is-count_from.is)
 
 at_seed : (c : After-next) → c.next.result ≡ seed_at ((c.args.text.now))
 unfolding seed_at count_at
@@ -47,7 +59,19 @@ at_seed c = c.next.ensures ∙ ap (next_at ((c.args.text.now))) (let at_count : 
 
 seed_within : (c : After-next) → c.next.result ≤ length ((c.args.text.now))
 seed_within c =
-    omega (arith, c.next.ensures, next_within (c.args.text.now) c.next-at.result (let count_within_lem : c.next-at.result ≤ length (c.args.text.now) = omega (arith, c.next-at.ensures, next_within (c.args.text.now) 4 (let long : 4 ≤ length (c.args.text.now) = opened_long (c.args.text.now) (let opened : same (take 4 c.args.text.now) opening ≡ true = sym c.is_opened.ensures ∙ c.if-not-is_opened.false in opened) in long)) in count_within_lem))
+    omega (
+      arith,
+      c.next.ensures,
+      next_within (c.args.text.now) c.next-at.result
+          (let count_within_lem : c.next-at.result ≤ length (c.args.text.now) = omega (
+            arith,
+            c.next-at.ensures,
+            next_within (c.args.text.now) 4
+                (let long : 4 ≤ length (c.args.text.now) = opened_long (c.args.text.now)
+                (let opened : same (take 4 c.args.text.now) opening ≡ true = sym c.is_opened.ensures ∙ c.if-not-is_opened.false in opened) in long),
+          ) in
+          count_within_lem),
+    )
 
 pub returns-then-not-is_opened : goal.returns-then-not-is_opened
 returns-then-not-is_opened c = sym (stop1 _ (sym c.is_opened.ensures ∙ c.if-not-is_opened.true))
@@ -67,7 +91,9 @@ count_from-requires c = count_within_lem (goal.at.count_from-requires c).After-n
 
 pub returns-in_default-count_from : goal.returns-in_default-count_from
 returns-in_default-count_from c =
-    sym (stop3 ((c.args.text.now)) (opened (goal.at.returns-in_default-count_from c).Else-not-is_opened) c.in-Is.algorithm (known (goal.at.returns-in_default-count_from c).In-Is) (is_unread _ (sym (counted (goal.at.returns-in_default-count_from c).After-count_from) ∙ c.in_default-count_from.is)))
+    sym (stop3 ((c.args.text.now)) (opened (goal.at.returns-in_default-count_from c).Else-not-is_opened) c.in-Is.algorithm
+    (known (goal.at.returns-in_default-count_from c).In-Is)
+    (is_unread _ (sym (counted (goal.at.returns-in_default-count_from c).After-count_from) ∙ c.in_default-count_from.is)))
 
 pub next-requires : goal.next-requires
 next-requires c = count_within_lem (goal.at.next-requires c).After-next-at
@@ -80,4 +106,5 @@ returns c =
     let text = c.args.text.now in
     c.seed_from.ensures
     ∙ ap (seed_from text c.in-Is.algorithm c.in-Is-count_from.count) (at_seed (goal.at.returns c).After-next)
-    ∙ sym (from_seed text (opened (goal.at.returns c).Else-not-is_opened) c.in-Is.algorithm (known (goal.at.returns c).In-Is) (good_count (goal.at.returns c).In-Is-count_from).0 _ (good_count (goal.at.returns c).In-Is-count_from).1)
+    ∙ sym (from_seed text (opened (goal.at.returns c).Else-not-is_opened) c.in-Is.algorithm (known (goal.at.returns c).In-Is)
+    (good_count (goal.at.returns c).In-Is-count_from).0 _ (good_count (goal.at.returns c).In-Is-count_from).1)

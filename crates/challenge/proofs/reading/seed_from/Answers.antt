@@ -20,7 +20,8 @@ end_within : (c : In_default) → c.args.start + length c.token-seed.result.now 
 end_within c = omega (arith, ap length c.token-seed.ensures, token_within c.args.text.now c.args.start c.requires)
 
 good : (c : After-is_terminated) → seed_checked (token_at c.args.text.now c.args.start) ≡ Checked.Good
-good c = sym (let checked : c.check_seed.result ≡ seed_checked (token_at c.args.text.now c.args.start) = c.check_seed.ensures ∙ ap seed_checked c.token-seed.ensures in checked) ∙ c.in_default.is
+good c = sym (let checked : c.check_seed.result ≡ seed_checked (token_at c.args.text.now c.args.start) = c.check_seed.ensures
+    ∙ ap seed_checked c.token-seed.ensures in checked) ∙ c.in_default.is
 
 ended : (c : After-is_terminated) →
     c.is_terminated.result ≡ terminated (drop (end_of c.args.text.now c.args.start) c.args.text.now)
@@ -29,7 +30,8 @@ ended c =
 
 ended_well : (c : Else-not-is_terminated) →
     terminated (drop (end_of c.args.text.now c.args.start) c.args.text.now) ≡ true
-ended_well c = sym (let ended : c.is_terminated.result ≡ terminated (drop (end_of c.args.text.now c.args.start) c.args.text.now) = c.is_terminated.ensures ∙ ap (λ (t : List ℕ). terminated (drop (c.args.start + length t) c.args.text.now)) c.token-seed.ensures in ended) ∙ c.if-not-is_terminated.false
+ended_well c = sym (let ended : c.is_terminated.result ≡ terminated (drop (end_of c.args.text.now c.args.start) c.args.text.now) = c.is_terminated.ensures
+    ∙ ap (λ (t : List ℕ). terminated (drop (c.args.start + length t) c.args.text.now)) c.token-seed.ensures in ended) ∙ c.if-not-is_terminated.false
 
 pub returns-in-Refused : goal.returns-in-Refused
 returns-in-Refused c =
@@ -37,7 +39,8 @@ returns-in-Refused c =
 
 pub returns-then-not-is_terminated : goal.returns-then-not-is_terminated
 returns-then-not-is_terminated c =
-    sym (stop5 c.args.text.now _ _ c.args.start (good (goal.at.returns-then-not-is_terminated c).After-is_terminated) (sym (ended (goal.at.returns-then-not-is_terminated c).After-is_terminated) ∙ c.if-not-is_terminated.true))
+    sym (stop5 c.args.text.now _ _ c.args.start (good (goal.at.returns-then-not-is_terminated c).After-is_terminated)
+    (sym (ended (goal.at.returns-then-not-is_terminated c).After-is_terminated) ∙ c.if-not-is_terminated.true))
 
 pub read_by-requires : goal.read_by-requires
 read_by-requires c =

@@ -55,13 +55,24 @@ pub returns-in-Refused : goal.returns-in-Refused
 returns-in-Refused c = record { answered = refused_seed _ _ _ _ _ _ (sym c.check_seed.ensures ∙ c.in-Refused.is); left = refl }
 
 pub returns-then-count-gt9999 : goal.returns-then-count-gt9999
-returns-then-count-gt9999 c = record { answered = refused_count _ _ _ _ _ (seed_good (goal.at.returns-then-count-gt9999 c).In_default) c.if-count-gt9999.true; left = refl }
+returns-then-count-gt9999 c =
+    record { answered = refused_count _ _ _ _ _ (seed_good (goal.at.returns-then-count-gt9999 c).In_default) c.if-count-gt9999.true; left = refl }
 
 pub overflow_add-name_length-3 : goal.overflow_add-name_length-3
-overflow_add-name_length-3 c = omega (arith, small (goal.at.overflow_add-name_length-3 c).After-ending_length, width_small (goal.at.overflow_add-name_length-3 c).After-width, c.name_length.ensures.1)
+overflow_add-name_length-3 c = omega (
+  arith,
+  small (goal.at.overflow_add-name_length-3 c).After-ending_length,
+  width_small (goal.at.overflow_add-name_length-3 c).After-width,
+  c.name_length.ensures.1,
+)
 
 pub overflow_add-name_length-4 : goal.overflow_add-name_length-4
-overflow_add-name_length-4 c = omega (arith, small (goal.at.overflow_add-name_length-4 c).After-ending_length, width_small (goal.at.overflow_add-name_length-4 c).After-width, c.name_length.ensures.1)
+overflow_add-name_length-4 c = omega (
+  arith,
+  small (goal.at.overflow_add-name_length-4 c).After-ending_length,
+  width_small (goal.at.overflow_add-name_length-4 c).After-width,
+  c.name_length.ensures.1,
+)
 
 pub returns-then-buf-name_length : goal.returns-then-buf-name_length
 returns-then-buf-name_length c =

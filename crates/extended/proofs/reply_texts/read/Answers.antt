@@ -81,17 +81,20 @@ returns-then-found-eq0 c =
 pub returns-in_default : goal.returns-in_default
 unfolding reply_text_of
 returns-in_default c =
-    ap read_to (untyped c.args.text.now (some (goal.at.returns-in_default c).Else-found-eq0) (few (goal.at.returns-in_default c).Else-found-eq0) (sym (known (goal.at.returns-in_default c).After-read_type) ∙ c.in_default.is))
+    ap read_to (untyped c.args.text.now (some (goal.at.returns-in_default c).Else-found-eq0) (few (goal.at.returns-in_default c).Else-found-eq0)
+    (sym (known (goal.at.returns-in_default c).After-read_type) ∙ c.in_default.is))
 
 pub returns-then-found-colons_of : goal.returns-then-found-colons_of
 unfolding reply_text_of
 returns-then-found-colons_of c =
-    ap read_to (misparted c.args.text.now (some (goal.at.returns-then-found-colons_of c).Else-found-eq0) (few (goal.at.returns-then-found-colons_of c).Else-found-eq0) _ (sym (known (goal.at.returns-then-found-colons_of c).After-read_type) ∙ c.in-Is.is)
+    ap read_to (misparted c.args.text.now (some (goal.at.returns-then-found-colons_of c).Else-found-eq0)
+    (few (goal.at.returns-then-found-colons_of c).Else-found-eq0) _ (sym (known (goal.at.returns-then-found-colons_of c).After-read_type) ∙ c.in-Is.is)
     (λ e. c.if-found-colons_of.true (c.colons-found.ensures ∙ (of_type_lem c.args.text.now c.in-Is.kind).1 e ∙ sym c.colons_of.ensures)))
 
 pub returns : goal.returns
 unfolding reply_text_of
 returns c =
     c.typed_in.ensures
-    ∙ ap read_to (laid_out c.args.text.now (some (goal.at.returns c).Else-found-eq0) (few (goal.at.returns c).Else-found-eq0) _ (sym (known (goal.at.returns c).After-read_type) ∙ c.in-Is.is)
+    ∙ ap read_to (laid_out c.args.text.now (some (goal.at.returns c).Else-found-eq0) (few (goal.at.returns c).Else-found-eq0) _
+    (sym (known (goal.at.returns c).After-read_type) ∙ c.in-Is.is)
     ((of_type_lem c.args.text.now c.in-Is.kind).0 (sym c.colons-found.ensures ∙ c.if-found-colons_of.false ∙ c.colons_of.ensures)))

@@ -47,10 +47,24 @@ pub returns-then-same-2 : goal.returns-then-same-2
 returns-then-same-2 c = rw (not_hex (goal.at.returns-then-same-2 c).Else-same, word (goal.at.returns-then-same-2 c).Then-same-2)
 
 pub returns-then-same-3 : goal.returns-then-same-3
-returns-then-same-3 c = rw (not_hex (goal.at.returns-then-same-3 c).Else-same, not_word (goal.at.returns-then-same-3 c).Else-same-2, init_hex (goal.at.returns-then-same-3 c).Then-same-3)
+returns-then-same-3 c = rw (
+  not_hex (goal.at.returns-then-same-3 c).Else-same,
+  not_word (goal.at.returns-then-same-3 c).Else-same-2,
+  init_hex (goal.at.returns-then-same-3 c).Then-same-3,
+)
 
 pub returns-then-same-4 : goal.returns-then-same-4
-returns-then-same-4 c = rw (not_hex (goal.at.returns-then-same-4 c).Else-same, not_word (goal.at.returns-then-same-4 c).Else-same-2, not_init_hex (goal.at.returns-then-same-4 c).Else-same-3, init_word (goal.at.returns-then-same-4 c).Then-same-4)
+returns-then-same-4 c = rw (
+  not_hex (goal.at.returns-then-same-4 c).Else-same,
+  not_word (goal.at.returns-then-same-4 c).Else-same-2,
+  not_init_hex (goal.at.returns-then-same-4 c).Else-same-3,
+  init_word (goal.at.returns-then-same-4 c).Then-same-4,
+)
 
 pub returns : goal.returns
-returns c = rw (not_hex (goal.at.returns c).Else-same, not_word (goal.at.returns c).Else-same-2, not_init_hex (goal.at.returns c).Else-same-3, not_init_word (goal.at.returns c).Else-same-4)
+returns c = rw (
+  not_hex (goal.at.returns c).Else-same,
+  not_word (goal.at.returns c).Else-same-2,
+  not_init_hex (goal.at.returns c).Else-same-3,
+  not_init_word (goal.at.returns c).Else-same-4,
+)

@@ -23,8 +23,10 @@ written : (c : Joined-is_hex) →
 written c =
     let a = c.args in
     elim c.if-is_hex.branch [
-      | then-is_hex w ↦ arm _ _ a.buf.now _ _ _ _ (password_hex a.kind a.password (sym c.is_hex.ensures ∙ w.if-is_hex.true)) w.write_hex-written.ensures w.buf-is w.written-is
-      | else-is_hex w ↦ arm _ _ a.buf.now _ _ _ _ (password_words a.kind a.password (sym c.is_hex.ensures ∙ w.if-is_hex.false)) w.write_words-written.ensures w.buf-is w.written-is
+      | then-is_hex w ↦ arm _ _ a.buf.now _ _ _ _ (password_hex a.kind a.password (sym c.is_hex.ensures ∙ w.if-is_hex.true)) w.write_hex-written.ensures
+          w.buf-is w.written-is
+      | else-is_hex w ↦ arm _ _ a.buf.now _ _ _ _
+          (password_words a.kind a.password (sym c.is_hex.ensures ∙ w.if-is_hex.false)) w.write_words-written.ensures w.buf-is w.written-is
     ]
 
 long : (r : Written) (t b : List ℕ) → length t ≤ length b → length (leaves r t b) ≡ length b

@@ -49,7 +49,8 @@ returns-in-Refused c older =
     let a = c.args in
     let s = view a.table older in
     ap (λ (k : Checked). record { answer = k; state = s }) c.in-Refused.is
-    ∙ sym (enrol-refused a.id a.algorithm a.count a.seed.now s a.password.now _ (sym (checked (goal.at.returns-in-Refused c).After-check_enrol-answer older) ∙ c.in-Refused.is))
+    ∙ sym (enrol-refused a.id a.algorithm a.count a.seed.now s a.password.now _
+    (sym (checked (goal.at.returns-in-Refused c).After-check_enrol-answer older) ∙ c.in-Refused.is))
 
 pub returns : goal.returns
 returns c older =

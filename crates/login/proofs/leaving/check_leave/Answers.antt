@@ -16,7 +16,8 @@ all : (c : Start) → length c.args.table.rooms ≡ 32
 all c = search (rules, unmapped)
 
 waiting : (c : After-has) (older : List ℕ) → waits c.args.port (view c.args.table older) ≡ c.has.result
-waiting c older = let a = c.args in sym (c.has.ensures ∙ waits_at a.table older (let all : length c.args.table.rooms ≡ 32 = search (rules, unmapped) in all) a.port)
+waiting c older = let a = c.args in
+    sym (c.has.ensures ∙ waits_at a.table older (let all : length c.args.table.rooms ≡ 32 = search (rules, unmapped) in all) a.port)
 
 pub returns-then-port-gt3 : goal.returns-then-port-gt3
 unfolding leave_checked

@@ -100,7 +100,8 @@ pub loop-i-preserved : goal.loop-i-preserved
 loop-i-preserved c =
     let at = c.loop-i in
     let n = c.copy-n.result in
-    let next = next_found at.buf n at.i c.capital_from-i-in-loop-i.result (omega arith) c.loop-i-test.true at.invariant.3 c.capital_from-i-in-loop-i.ensures in (
+    let next = next_found at.buf n at.i c.capital_from-i-in-loop-i.result
+    (omega arith) c.loop-i-test.true at.invariant.3 c.capital_from-i-in-loop-i.ensures in (
       simp length-set at.invariant.0,
       drop-set-lt n at.buf at.i _ c.loop-i-test.true ∙ at.invariant.1,
       next.0 ∙ at.invariant.2,

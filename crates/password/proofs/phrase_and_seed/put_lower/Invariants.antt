@@ -12,7 +12,8 @@ Found t i = (i ≤ length t) × (map lower_of (take i t) ≡ take i t) × (i < l
 
 abbrev pub invariant-loop-i : goal.invariant-loop-i
 invariant-loop-i l =
-    (length l.buf ≡ length l.initial.buf) × (drop l.n l.buf ≡ drop l.n l.initial.buf) × (map lower_of (take l.n l.buf) ≡ map lower_of l.seed) × Found (take l.n l.buf) l.i
+    (length l.buf ≡ length l.initial.buf) × (drop l.n l.buf ≡ drop l.n l.initial.buf) × (map lower_of (take l.n l.buf) ≡ map lower_of l.seed)
+    × Found (take l.n l.buf) l.i
 
 abbrev pub decreases-loop-i : goal.decreases-loop-i
 decreases-loop-i l = l.n - l.i

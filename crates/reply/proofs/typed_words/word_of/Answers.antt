@@ -5,7 +5,8 @@ use native.Mathlib.Omega.{arith}
 use lib.ListN.{get_or, drop}
 use Rattle.dictionary.specs.Dictionary.{number_from}
 use Rattle.reply.specs.Reply.{upper_text}
-use Rattle.reply.proofs.typed_words.TypedLetters.{none_left_every, none_left_number, letter_grows, other_byte, letter_byte, letter_number, letter_upper, empty_other, long_other, mixed_other, letters_word}
+use Rattle.reply.proofs.typed_words.TypedLetters.{none_left_every, none_left_number, letter_grows, other_byte, letter_byte, letter_number, letter_upper}
+use Rattle.reply.proofs.typed_words.TypedLetters.{empty_other, long_other, mixed_other, letters_word}
 use Rattle.reply.proofs.typed_words.word_of.Goals as goal
 
 pub returns-then-n-eq0 : goal.returns-then-n-eq0

@@ -24,5 +24,6 @@ returns-then-place-lt32 c older =
 pub returns-else-place-lt32 : goal.returns-else-place-lt32
 returns-else-place-lt32 c older =
     let a = c.args in
-    let past = set_out (view a.table older).rooms a.place _ (omega (arith, rooms-32 a.table older (all (goal.at.returns-else-place-lt32 c).Start), c.if-place-lt32.false)) in
+    let past = set_out (view a.table older).rooms a.place _
+    (omega (arith, rooms-32 a.table older (all (goal.at.returns-else-place-lt32 c).Start), c.if-place-lt32.false)) in
     λ i. record { rooms = sym past i; ports = a.table.ports }

@@ -18,4 +18,5 @@ bounds-buf-a c = omega (arith, (counted (goal.at.bounds-buf-a c).After-spell-a).
 pub returns : goal.returns
 returns c =
     let a = c.args in
-    then_byte (decimal_of a.n) a.buf.now _ _ a.last (omega (arith, (counted (goal.at.returns c).After-spell-a).0, length_decimal a.n)) (counted (goal.at.returns c).After-spell-a)
+    then_byte (decimal_of a.n) a.buf.now _ _ a.last (omega (arith, (counted (goal.at.returns c).After-spell-a).0, length_decimal a.n))
+    (counted (goal.at.returns c).After-spell-a)

@@ -17,7 +17,8 @@ written base b i r d h g e =
     ∙ spelt base b (i - 1) r (omega arith)
     ∙ ap (λ (v : ℕ). digits_of base (i - 1) (r / base) ++ drop (i - 1) (set b (i - 1) v)) (sym e)
 
-all_written : (base n k : ℕ) (b₀ b : List ℕ) (i r : ℕ) → i ≡ 0 → digits_of base k n ++ drop k b₀ ≡ digits_of base i r ++ drop i b → Put (digits_of base k n) b₀ b k
+all_written : (base n k : ℕ) (b₀ b : List ℕ) (i r : ℕ) → i ≡ 0 → digits_of base k n ++ drop k b₀ ≡ digits_of base i r ++ drop i b
+    → Put (digits_of base k n) b₀ b k
 unfolding digits_of
 all_written base n k b₀ b i r z e = (
   sym (length_digits base k n),

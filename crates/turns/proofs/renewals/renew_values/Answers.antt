@@ -19,9 +19,13 @@ returns-in-Refused c =
     let older = c.args.older.now in
     let t = seen c.args.turn older in
     let stayed = c.stays.ensures older in
-    ap (λ (r : Replied). outcome c.stays.result (older_after r older ((remembering c.args.turn.place c.args.turn.account c.args.older.now)))) (ap (λ (x : Said). x.answer) stayed)
+    ap (λ (r : Replied). outcome c.stays.result (older_after r older ((remembering c.args.turn.place c.args.turn.account c.args.older.now))))
+    (ap (λ (x : Said). x.answer) stayed)
     ∙ stayed
-    ∙ first_refused (refused t) _ _ (compared c.args.password ((let a = c.args in renewed_room (room_of a.turn.account (part_of a.older.now a.turn.place)) a.algorithm a.count a.seed.now a.new)) t) (sym (checked (goal.at.returns-in-Refused c).After-renewal-next) ∙ c.in-Refused.is)
+    ∙ first_refused (refused t) _ _
+    (compared c.args.password
+    ((let a = c.args in renewed_room (room_of a.turn.account (part_of a.older.now a.turn.place)) a.algorithm a.count a.seed.now a.new)) t)
+    (sym (checked (goal.at.returns-in-Refused c).After-renewal-next) ∙ c.in-Refused.is)
 
 pub returns : goal.returns
 unfolding renew_values
@@ -30,7 +34,11 @@ returns c =
     let t = seen a.turn a.older.now in
     let values = values_checked a.algorithm a.count a.seed.now t.account in
     let good = sym (checked (goal.at.returns c).After-renewal-next) ∙ c.in_default.is in
-    let room = ap (λ (p : Proposal). p.room) c.renewal-next.ensures ∙ sym (first_good (λ _. free) values ((let a = c.args in renewed_room (room_of a.turn.account (part_of a.older.now a.turn.place)) a.algorithm a.count a.seed.now a.new)) good) in
+    let room = ap (λ (p : Proposal). p.room) c.renewal-next.ensures
+    ∙ sym (first_good (λ _. free) values
+    ((let a = c.args in renewed_room (room_of a.turn.account (part_of a.older.now a.turn.place)) a.algorithm a.count a.seed.now a.new)) good) in
     c.compare.ensures a.older.now ((remembering c.args.turn.place c.args.turn.account c.args.older.now))
     ∙ ap (λ (r : Room). compared a.password r t) room
-    ∙ first_good (refused t) values (compared a.password ((let a = c.args in renewed_room (room_of a.turn.account (part_of a.older.now a.turn.place)) a.algorithm a.count a.seed.now a.new)) t) good
+    ∙ first_good (refused t) values
+    (compared a.password ((let a = c.args in
+    renewed_room (room_of a.turn.account (part_of a.older.now a.turn.place)) a.algorithm a.count a.seed.now a.new)) t) good

@@ -22,7 +22,8 @@ unfolding spec.renewed
 returns-in-Refused c =
     let a = c.args in
     let t = seen a.turn a.older.now in
-    let values = spec.renew_values a.algorithm a.count a.seed.now a.new a.password t in record { said = c.stays.ensures a.older.now ∙ first_refused (refused t) _ _ values c.in-Refused.is; left = λ why e. refl; elsewhere = λ room d. refl }
+    let values = spec.renew_values a.algorithm a.count a.seed.now a.new a.password t in
+    record { said = c.stays.ensures a.older.now ∙ first_refused (refused t) _ _ values c.in-Refused.is; left = λ why e. refl; elsewhere = λ room d. refl }
 
 pub returns : goal.returns
 unfolding spec.renewed
@@ -39,6 +40,7 @@ returns c =
       left = λ why e. c.keep_seed.ensures ∙ ap (λ (r : Replied). older_after r older (remembering a.turn.place a.turn.account older)) e;
       elsewhere = λ room d.
           ap (λ (l : List ℕ). part_of l room) c.keep_seed.ensures
-          ∙ older_after_lem made.answer a.turn.place a.turn.account older (c.requires.place_bound c.in_default.is) c.requires.older_len (sixteen (goal.at.returns c).Start)
+          ∙ older_after_lem made.answer a.turn.place a.turn.account older (c.requires.place_bound c.in_default.is) c.requires.older_len
+          (sixteen (goal.at.returns c).Start)
           room (λ e. d (e ∙ sym place));
     }
