@@ -10,7 +10,7 @@ import bounds
 import harness
 import model
 
-METER = harness.ROOT / "target" / "bin" / "meter"
+METER = harness.program("meter")
 ROUNDS = 15
 # how many thousand times a call is repeated; a reading by itself, which is soon done, twenty times as often
 THOUSANDS, THOUSANDS_READ = 100, 2000
@@ -95,7 +95,7 @@ def check_hashes():
 
 def check():
     """Each call finds and leaves what its row says: what is timed is what the title has."""
-    harness.run(["rt", "check", "meter"])
+    harness.run(["host/prove", "meter"])
     check_hashes()
     for call, row in READINGS.items():
         said = harness.run([METER], input=f"{call}01".encode()).strip()

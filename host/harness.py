@@ -18,6 +18,9 @@ SANITIZED = "AddressSanitizer and UndefinedBehaviorSanitizer" if NATIVE else "un
 SANITIZERS = (["-g", "-fsanitize=address,undefined", "-fno-sanitize-recover=all"] if NATIVE else
               ["-g", "-fsanitize=undefined", "-fsanitize-trap=all"])
 
+# the crate of a static library, where C links its archive by another's name
+EXPORTS = {"panel": "panel_c"}
+
 # the calls that the driver knows: those of lift.h so far
 IN_C = {"md5", "sha1", "gen", "read", "readplain", "hex", "words", "chal", "wchal", "wext", "card"}
 
@@ -32,9 +35,15 @@ def typed(**more):
     return {**{name: value for name, value in os.environ.items() if name not in of_make}, **more}
 
 
+def program(name):
+    """Where rt leaves a program of the repository."""
+    return ROOT / "crates" / name / "out" / name
+
+
 def runs(command):
     """The command, and where it is one of the programs what runs it."""
-    return [X86_64 / "run", *command] if pathlib.Path(command[0]).parent == ROOT / "target" / "bin" else command
+    path = pathlib.Path(command[0])
+    return [X86_64 / "run", *command] if path == program(path.name) else command
 
 
 def run(command, **options):
@@ -52,8 +61,8 @@ def run(command, **options):
 
 
 def archive(crate="panel"):
-    """A crate's exported functions; after rt ci only that crate is checked again."""
-    run(["rt", "staticlib", crate])
+    """A crate's exported functions, by the name that C links. rt proves what they stand on once more where it has kept nothing of it but for rt ci."""
+    run(["host/prove", EXPORTS.get(crate, crate)])
     return ROOT / "target" / "staticlib" / f"lib{crate}.a"
 
 

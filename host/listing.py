@@ -14,16 +14,23 @@ import re
 import sys
 
 HEAD = re.compile(r"^(?:pub )?(?:extern \"C\" )?fn .*?^\{", re.M | re.S)
-DECLARED = re.compile(r"^(?:#\[repr\(C\)\]\n)?pub (?:const .*?;$|(?:struct|enum) [^{;]*(?:;|\{.*?^\}))", re.M | re.S)
+DECLARED = re.compile(r"^(?:#\[repr\(C\)\]\n)?(?:#\[derive\([^\]]*\]\n)?pub (?:const .*?;$|(?:struct|enum) [^{;]*(?:;|\{.*?^\}))", re.M | re.S)
 MODULE = re.compile(r"^ *module _ (.*?) where$", re.S)
 DEFINED = re.compile(r"^ *(?:(?:abbrev|unfoldable) pub|pub (?:record|data)) ")
 STATED = re.compile(r"^ *pub ([^\s:]+)((?: \{[^}]*\})?) : ")
 
 
-def plain(text):
-    """On one line, with names as they stand behind their crates and modules; a promise, `Learnt`, keeps its function's."""
-    text = re.sub(r"//.*|--.*", "", text)
-    text = re.sub(r"(?<![\w-])(?:[A-Za-z_][\w-]*(?:::|\.))+(?=[A-Za-z_])(?!Learnt)", "", text)
+def aliases(source):
+    """The names by which a file knows other files."""
+    return re.findall(r"^(?:ghost |pub )?use [\w.]+ as ([\w-]+);?$", source, re.M)
+
+
+def plain(text, known=()):
+    """On one line, with names as they stand behind their crates and modules, of which the file knows some by these names; a promise, `Learnt`, keeps its
+    function's. What a value's field is, as in `held.id`, stands. What a type derives is left out."""
+    text = re.sub(r"//.*|--.*|#\[derive\([^\]]*\]\n", "", text)
+    modules = "|".join([r"[A-Za-z_][\w-]*::", r"[A-Z][\w-]*\.", *(rf"{re.escape(name)}\." for name in known)])
+    text = re.sub(rf"(?<![\w.-])(?:{modules})+(?=[A-Za-z_])(?!Learnt)", "", text)
     return " ".join(text.split()).replace("( ", "(").replace(", )", ")")
 
 
@@ -49,9 +56,10 @@ def can_be_named(root, source):
 def declared(root):
     """Each type and constant that another crate can name, and each that C sees."""
     for source in sorted(root.glob("crates/*/src/**/*.rt")):
-        if not is_program(root, source) and (can_be_named(root, source) or "#[repr(C)]" in source.read_text()):
-            for found in DECLARED.findall(source.read_text()):
-                yield plain(found)
+        text = source.read_text()
+        if not is_program(root, source) and (can_be_named(root, source) or "#[repr(C)]" in text):
+            for found in DECLARED.findall(text):
+                yield plain(found, aliases(text))
 
 
 def functions(root, outer):
@@ -59,9 +67,10 @@ def functions(root, outer):
     for source in sorted(root.glob("crates/*/src/**/*.rt")):
         if is_program(root, source) or outer and not can_be_named(root, source):
             continue
-        for head in HEAD.findall(source.read_text()):
+        text = source.read_text()
+        for head in HEAD.findall(text):
             if "ensures" in head and (head.startswith("pub ") or not outer):
-                yield plain(re.sub(r"^pub (?:extern \"C\" )?", "", head).rstrip("{"))
+                yield plain(re.sub(r"^pub (?:extern \"C\" )?", "", head).rstrip("{"), aliases(text))
 
 
 def believed(root):
@@ -81,7 +90,7 @@ def depth(line):
 
 def items(text):
     """The items of a page, each with the modules around it: an item goes on while lines are deeper, or are its clauses."""
-    around, lines = [], [line for line in text.splitlines() if line.strip() and not line.lstrip().startswith("--")]
+    around, known, lines = [], aliases(text), [line for line in text.splitlines() if line.strip() and not line.lstrip().startswith("--")]
     at = 0
     while at < len(lines):
         end, here = at + 1, depth(lines[at])
@@ -93,7 +102,7 @@ def items(text):
         item = "\n".join(lines[at:end])
         around = [(level, module) for level, module in around if level < here]
         if found := MODULE.match(item):
-            around.append((here, plain(found[1])))
+            around.append((here, plain(found[1], known)))
         else:
             yield " ".join(module for _, module in around), item
         at = end
@@ -104,14 +113,15 @@ def stated(pages, root):
     for page in sorted(pages):
         if is_program(root, page):
             continue
-        found = list(items(page.read_text()))
+        text = page.read_text()
+        found, known = list(items(text)), aliases(text)
         for at, (given, item) in enumerate(found):
             if DEFINED.match(item):
                 name = re.split(r"[\s:]", re.sub(DEFINED, "", item))[0]
                 own = [more for _, more in found[at + 1:] if more.split()[0] in (name, "unfolding")]
-                yield "definition " + plain(" ; ".join([item, *(more for more in own if more.split()[0] == name)]))
+                yield "definition " + plain(" ; ".join([item, *(more for more in own if more.split()[0] == name)]), known)
             elif STATED.match(item):
-                yield f"theorem {plain(item.replace('pub ', '', 1))}" + (f" given {given}" if given else "")
+                yield f"theorem {plain(item.replace('pub ', '', 1), known)}" + (f" given {given}" if given else "")
 
 
 def outer_lines(root):
@@ -126,7 +136,7 @@ def main(arguments):
     roots = [pathlib.Path(argument).resolve() for argument in arguments if argument != "--outer"]
     root = roots[0] if roots else pathlib.Path(__file__).resolve().parent.parent
     every = [*functions(root, False), *stated(root.glob("crates/*/specs/**/*.antt"), root)]
-    print("\n".join(sorted(outer_lines(root) if "--outer" in arguments else every)))
+    print("\n".join(sorted({*outer_lines(root)} if "--outer" in arguments else {*every})))
 
 
 if __name__ == "__main__":

@@ -15,7 +15,7 @@ sys.dont_write_bytecode = True
 import harness  # noqa: E402
 import scripts  # noqa: E402
 
-PROGRAM = harness.ROOT / "target" / "bin" / "replay"
+PROGRAM = harness.program("replay")
 
 
 def kept(seed, lines):

@@ -1,4 +1,4 @@
-"""The host tests: `python3 host/test.py`, after `rt ci`.
+"""The host tests: `python3 host/test.py`, after `rt ci`, whose words `make test` keeps in target/ci.log.
 
 Builds the archive of the exported functions and the C programs over it, and
 runs each section below, a line each. Any failure ends it with status 1. With

@@ -14,7 +14,8 @@ IMPORT = re.compile(r"^((?:ghost |pub )?use )([^\s;{]+?)(?:\.\{([^}]*)\})?(?: as
 
 
 def sources():
-    return sorted(path for path in (ROOT / "crates").glob("**/*") if path.suffix in (".rt", ".antt"))
+    """The sources, without the copies of them that rt keeps in a crate's folder out/."""
+    return sorted(path for part in ("src", "specs", "proofs") for path in (ROOT / "crates").glob(f"*/{part}/**/*") if path.suffix in (".rt", ".antt"))
 
 
 def without_comments(text):
@@ -27,9 +28,9 @@ def stands(name, body, edge):
 
 
 def used(name, body, edge):
-    """Whether a name, or each part of an operator such as `_≡_`, stands in the text."""
-    parts = [part for part in name.split("_") if part]
-    return stands(name, body, edge) or "_" in (name[0], name[-1]) and all(stands(part, body, edge) for part in parts)
+    """Whether a name, or each part of an operator such as `◌≡◌`, stands in the text."""
+    parts = [part for part in name.split("◌") if part]
+    return stands(name, body, edge) or "◌" in name and all(stands(part, body, edge) for part in parts)
 
 
 def names_of(listed):

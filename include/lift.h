@@ -1,7 +1,7 @@
 /* lift.h: the one-time-password functions that the panel firmware calls.
  *
  * The functions are proved in the crates of this repository; link
- * target/staticlib/libpanel.a, which `rt staticlib panel` writes. Nothing is
+ * target/staticlib/libpanel.a, which `make panel` writes. Nothing is
  * allocated and nothing is kept between calls: a call may be made from any
  * task, and two tasks may call at once with buffers of their own.
  *
@@ -28,7 +28,7 @@
  *     clears it afterwards; docs/GUIDE.md has how much it was on the inputs
  *     that were tried, which is no bound.
  *   - Another processor than x86-64: it is all that the Rattle kit compiles
- *     for today. On Arm the functions are proved, and can't be linked yet.
+ *     for today, so the functions can't be linked into firmware for Arm yet.
  */
 #ifndef LIFT_H
 #define LIFT_H

@@ -139,8 +139,8 @@ def ours(lines):
 
 def replay(lines):
     """What program replay answers, for the table, which lift.h hasn't."""
-    harness.run(["rt", "check", "replay"])
-    return harness.asked(harness.ROOT / "target" / "bin" / "replay", lines)
+    harness.run(["host/prove", "replay"])
+    return harness.asked(harness.program("replay"), lines)
 
 
 def hold(answers, claimed):

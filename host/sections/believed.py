@@ -7,7 +7,7 @@ from sections.promises import CRATES, PAGE, section
 DEFINED = re.compile(r"^ *(?:(?:abbrev|unfoldable)(?: pub)?|pub (?:record|data)) ([^\s:]+)", re.M)
 # An import of a page of definitions: its crate and name, the names in braces, the name by which the page is known. What a
 # crate's source declares, in lower case, is no page.
-IMPORT = re.compile(r"^(?:ghost )?use Rattle·(\w+)(?:·specs\.specs|\.specs)\.([A-Z]\w*)(?:\.\{([^}]*)\})?(?: as ([\w-]+))?;?$", re.M)
+IMPORT = re.compile(r"^(?:ghost |pub )?use Rattle\.(\w+)\.specs\.([A-Z]\w*)(?:\.\{([^}]*)\})?(?: as ([\w-]+))?;?$", re.M)
 
 
 def definitions(path):
@@ -38,7 +38,7 @@ def named(path):
     for crate, page, names, alias in IMPORT.findall(text):
         file = CRATES / crate / "specs" / f"{page}.antt"
         words = {name.split(" as ")[0].strip() for name in names.split(",")}
-        words |= set(re.findall(rf"(?<![\w.]){alias}\.([^\s(){{}},;⌝]+)", text)) if alias else set()
+        words |= set(re.findall(rf"(?<![\w.]){alias}\.([^\s(){{}}\[\].,;]+)", text)) if alias else set()
         if file.is_file():  # else it is the kit's
             yield from ((file, word) for word in words & definitions(file))
 

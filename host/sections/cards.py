@@ -4,7 +4,7 @@ import subprocess
 
 import harness
 import model
-from harness import ROOT, Failed, call
+from harness import Failed, call
 from sections.challenges import NAMES, any_challenge, good_opening
 from sections.passwords import any_phrase
 
@@ -39,7 +39,7 @@ def cards_at_random(driver):
 
 def printed(stdin):
     """What the program prints on that input."""
-    done = subprocess.run(harness.runs([ROOT / "target" / "bin" / "card"]), input=stdin, timeout=60,
+    done = subprocess.run(harness.runs([harness.program("card")]), input=stdin, timeout=60,
                           stdout=subprocess.PIPE, stderr=subprocess.PIPE)
     if done.returncode != 0 or done.stderr:
         raise Failed(f"status {done.returncode}, {done.stderr[:500]} on {stdin}")

@@ -12,14 +12,15 @@ CARD_SHOWN = ["99 85c43ee03857765b FOWL KID MASH DEAD DUAL OAF"]
 VERDICT = "3 passed, 0 failed"
 # The words behind `make`, what is added to the environment, and whether make itself prints a line before and after.
 WAYS = [([], {}, False), (["-C", str(ROOT)], {}, True), (["-j2"], {}, False), ([], {"MAKEFLAGS": "w"}, True)]
+OK = "rt: ok; handles allowed: none; must-fail edits: 3 refused; every proof and must-fail edit was done in this run"
 # Stand-ins for the two commands of the gate, so that `make test` ends at once: they say what was asked of them.
 STAND_IN = """#!/bin/sh
 echo "$(basename "$0") $*"
 [ "$*" != "$FAILS" ] || exit 1
-[ "$*" != ci ] || echo "$VERDICT"
+[ "$*" != ci ] || printf '%s\n' "$OK" "$VERDICT"
 """
 TO_THE_TOP = ["set -euo pipefail", 'cd "$(dirname "$0")/.."']
-STEPS = ["rt fmt --check", "rt ci", VERDICT, "python3 host/test.py", VERDICT]
+STEPS = ["rt ci", OK, VERDICT, "python3 host/test.py", VERDICT]
 
 
 def printed(target, words, more, **options):
@@ -49,12 +50,13 @@ def stand_ins(folder):
 
 
 def gate(path, words, more, framed):
-    """`make test` on stand-ins: its steps in order, the verdict last; and a step that fails, or a bad verdict, fails it."""
-    good = {**more, "PATH": path, "FAILS": "", "VERDICT": VERDICT}
+    """`make test` on stand-ins: its steps in order, the verdict last; and a step that fails, a bad verdict or a bad edit fails it."""
+    log = path.partition(":")[0] + "/kept/ci.log"
+    good = {**more, "PATH": path, "FAILS": "", "OK": OK, "VERDICT": VERDICT, "CI_LOG": log}
     status, lines = printed("test", words, good)
-    if status != 0 or between(lines, framed) != STEPS:
+    if status != 0 or between(lines, framed) != STEPS or pathlib.Path(log).read_text().splitlines() != STEPS[:3]:
         raise Failed(f"make {' '.join(words)} test: status {status}, {lines}")
-    wrong = [{"FAILS": "fmt --check"}, {"FAILS": "ci"}, {"FAILS": "host/test.py"}, {"VERDICT": "2 passed, 1 failed"}]
+    wrong = [{"FAILS": "ci"}, {"FAILS": "host/test.py"}, {"VERDICT": "2 passed, 1 failed"}, {"OK": OK.replace("refused;", "refused, 1 bad;")}, {"OK": ""}]
     if not all(printed("test", words, {**good, **each})[0] for each in wrong):
         raise Failed(f"make {' '.join(words)} test: a step fails, and its status is 0")
 

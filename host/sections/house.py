@@ -6,24 +6,29 @@ import tidy
 from harness import ROOT, Failed
 
 CRATES = ROOT / "crates"
-KIT = {"bytes", "check", "io", "libc", "os"}
+# the kit's libraries that crates.txt names; std is always there, and never listed
+KIT = {"check"}
 # Kinds of file, once in each crate; every other name stands for one thing.
 KINDS = {"lib", "main", "laws", "inside", "examples"}
+# The files of a function's proof, which stand in a folder of its name.
+OF_PROOFS = {"Proof.antt", "Invariants.antt", "Answers.antt"}
 # A standard's definition has the name of the code that does it.
-DEFINED = {("digests", "md5"), ("digests", "sha1"), ("digests", "rounds")}
+DEFINED = {("digests", "rounds")}
 # The digests are of one kind, and what is the same part of each has one name.
-DIGESTS = {"md5", "sha1"}
+DIGESTS = {"md5_hash", "sha1_hash"}
 PARTS = {"compress", "digest", "digestbytes", "functions"}
 # For the benchmark alone, and a library because a program exports nothing to C: its functions promise nothing, and no crate stands on it.
 MEASURED = {"painted"}
+# A static library that hands a library's functions to C, each under its name, with its clauses.
+THIN = {"panel_c": "panel"}
 # The crates of a table's fields: who takes a table apart lists them too.
 FIELDS = {"accounts", "line", "port"}
 
 
 def listed():
-    """crates.txt: each crate with what it stands on."""
+    """crates.txt: each crate, a static library too, with what it stands on."""
     rows = [line.split(":") for line in (ROOT / "crates.txt").read_text().splitlines() if line and not line.startswith("#")]
-    return {name: below.split() for name, below in rows}
+    return {name.removesuffix(" staticlib"): below.split() for name, below in rows}
 
 
 def is_program(crate):
@@ -38,11 +43,11 @@ def is_relied_on(crate):
 def named_in(crate):
     """The crates that a crate's sources name."""
     found = set()
-    for path in (CRATES / crate).glob("**/*.antt"):
-        found |= set(re.findall(r"^use Rattle·(\w+)[.·]", path.read_text(), re.M))
+    for path in [*(CRATES / crate / "specs").glob("**/*.antt"), *(CRATES / crate / "proofs").glob("**/*.antt")]:
+        found |= set(re.findall(r"^(?:pub )?use Rattle\.(\w+)\.", path.read_text(), re.M))
     for path in (CRATES / crate / "src").glob("**/*.rt"):
         text = tidy.without_comments(path.read_text())
-        found |= set(re.findall(r"Rattle·(\w+)[.·]", text)) | set(re.findall(r"(?<![\w:])(\w+)::", text))
+        found |= set(re.findall(r"Rattle\.(\w+)\.", text)) | set(re.findall(r"(?<![\w:])(\w+)::", text))
     return (found & (set(listed()) | KIT)) - {crate}
 
 
@@ -113,7 +118,7 @@ def names(crate):
     for kind, pattern in (("module", "src/**/*.rt"), ("definitions", "specs/**/*.antt"), ("proofs", "proofs/**/*.antt")):
         modules = {path.stem for path in folder.glob("src/**/*.rt")}
         for path in folder.glob(pattern):
-            if path.name != "Proof.antt" and not (kind == "proofs" and path.stem in modules):
+            if path.name not in OF_PROOFS and not (kind == "proofs" and path.stem in modules):
                 yield kind, path.stem.lower().replace("_", "")
 
 

@@ -58,13 +58,23 @@ def edits():
     return len(names)
 
 
-def theorems():
-    """The theorems of the sentences of the letter and of the documents."""
-    stated = set()
+def other_names():
+    """What a name of two words or more may be that is no theorem's: a crate, a function, a field or a constant of a source, a definition of a page."""
+    found = set(house.listed())
+    for path in CRATES.glob("*/src/**/*.rt"):
+        found |= set(re.findall(r"(?:\bfn |\bconst |^ +(?:pub )?)(\w+)(?:\(|:|<)", path.read_text(), re.M))
     for path in CRATES.glob("*/specs/**/*.antt"):
+        found |= set(re.findall(r"^ *(?:abbrev|unfoldable)(?: pub)? ([^\s:]+)", path.read_text(), re.M))
+    return found
+
+
+def theorems():
+    """The theorems of the sentences of the letter and of the documents. Those that rest on what an edit of a definition turns stand among the proofs."""
+    stated = set()
+    for path in [*CRATES.glob("*/specs/**/*.antt"), *CRATES.glob("*/proofs/*.antt")]:
         stated |= set(re.findall(r"^\s*pub ([\w-]+)(?: \{[^}]*\})? :", path.read_text(), re.M))
     names = {name for heading in PAPERS for cells in section(heading)
-             for name in re.findall(r"`([a-z\d]+(?:-[a-z\d]+)+)`", cells[1])}
+             for name in re.findall(r"`([a-z\d]+(?:[_-][a-z\d]+)+)`", cells[1])} - (other_names() - stated)
     if names - stated:
         raise Failed(f"stated nowhere: {', '.join(sorted(names - stated))}")
     return len(names)
@@ -87,7 +97,7 @@ def pages():
     names = {pair for heading in PAPERS for cells in section(heading)
              for pair in re.findall(r"`(\w+)` ([A-Z]\w+)", cells[1])}
     for crate, page in sorted(names):
-        if not (CRATES / crate / "specs" / f"{page}.antt").is_file():
+        if not any((CRATES / crate / part / f"{page}.antt").is_file() for part in ("specs", "proofs")):
             raise Failed(f"no such file: {page} of {crate}")
     return len(names)
 
@@ -95,25 +105,53 @@ def pages():
 def asking():
     """The functions that ask something of their callers are those of the list."""
     listed = {name for cells in section("Inner functions with a `requires`") for name in named(cells[0])}
-    asks = {name for name, head in functions() if re.search(r"^\s*requires \{", head, re.M)}
+    asks = {name for name, head in functions() if re.search(r"^\s*requires (?:\w+ )?\{", head, re.M)}
     if listed != asks:
         raise Failed(f"listed or asking, not both: {', '.join(sorted(listed ^ asks))}")
     return len(asks)
 
 
 def public():
-    """The functions of the libraries that another crate can name."""
+    """The functions of the libraries that another crate can name; those that a thin crate hands to C are another's."""
     for name, head in functions():
         crate, *inside, _ = name.split("::")
-        if head.startswith("pub ") and listing.is_open(ROOT, crate, inside):
+        if head.startswith("pub ") and crate not in house.THIN and listing.is_open(ROOT, crate, inside):
             yield name
 
 
+def clauses(crate):
+    """Each function of a crate's root, with its signature and clauses on a line, and with its body."""
+    text = (CRATES / crate / "src" / "lib.rt").read_text()
+    for head, body in re.findall(r"^pub (?:extern \"C\" )?(fn .*?)^\{\n(.*?)^\}$", text, re.M | re.S):
+        yield re.search(r"fn (\w+)", head)[1], on_a_line(head), on_a_line(body)
+
+
+def on_a_line(text):
+    return " ".join(text.split()).replace("( ", "(").replace(", )", ")")
+
+
+def handed_on():
+    """What a thin crate hands to C are all functions of its library's root, each with its library's signature and clauses, and each calls that one alone."""
+    count = 0
+    for thin, library in house.THIN.items():
+        theirs = {name: head for name, head, _ in clauses(library)}
+        ours = {name: head for name, head, _ in clauses(thin)}
+        if ours != theirs:
+            raise Failed(f"{thin} and {library} differ: {', '.join(sorted(name for name, _ in set(ours.items()) ^ set(theirs.items())))}")
+        for name, head, body in clauses(thin):
+            given = ", ".join(re.findall(r"(\w+): ", head.partition(" ensures ")[0]))
+            if body.rstrip(";") != f"{library}::{name}({given})":
+                raise Failed(f"{thin}::{name} is more than a call of {library}'s: {body}")
+        count += len(ours)
+    return count
+
+
 def determined():
-    """Each public function has its theorem that its promise determines its results."""
+    """Each public function has its theorem that its promise determines its results: of what its callers learn, or of its contract."""
     cited = set()
     for path in DETERMINED.glob("*.antt"):
-        cited |= set(re.findall(r"^use Rattle·([\w.]+?)(?:\.Reads)? as", path.read_text(), re.M))
+        for found in re.findall(r"^use Rattle\.([\w.]+?)(?:\.Reads)? as", path.read_text(), re.M):
+            cited.add(found.replace(".specs.contracts.", ".proofs."))
     names = set(public())
     for name in sorted(names):
         crate, *inside, function = name.split("::")
@@ -125,4 +163,5 @@ def determined():
 def page(driver):
     """Everything that the page names or lists."""
     return (f"{files()} files, {pages()} behind their crates, {theorems()} theorems, {promised()} functions, {edits()} edits, "
-            f"{asking()} inner functions; {determined()} public functions, each with its theorem that its promise determines its results")
+            f"{asking()} inner functions; {determined()} public functions, each with its theorem that its promise determines its results; "
+            f"{handed_on()} that C calls, each with its library's clauses")

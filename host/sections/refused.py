@@ -1,12 +1,18 @@
-"""The must-fail edits, by the prover's logs: each function that one makes wrong is refused by itself, for a fact."""
+"""The must-fail edits, by what the prover says of each: each function that one makes wrong is refused by itself, for a fact."""
 import collections
 import re
 
+import tried
 from harness import ROOT, Failed
 from sections.promises import CRATES, public
 
-# What the prover says where a name is missing or a step of a proof no longer fits. No edit may be refused for that.
-SHAPE = re.compile(r"is not in scope|has no field|this has type `tie\.Need|no occurrence of the path's left endpoint")
+# What the prover says where a name is missing or a step of a proof no longer fits. No function may be refused for that alone: today's prover names a step
+# by the code's own words, so that a proof may also cite a step that an edit words otherwise, beside a goal that no longer holds.
+SHAPE = re.compile(r"is not in scope|has no field|has no `|this has type `tie\.Need|no occurrence of the path's left endpoint")
+# What it says of a function: that a proof that is there fails, or that a goal of its own is left; or only that it calls one of which it says so.
+ALONE = r": (?:not proved|no proof: expected answers in .* did not prove [^;]*)"
+# What it refuses in a file of proofs or specs: the file, without its crate, and why.
+ERROR = re.compile(r"^(?:\./)?((?:proofs|specs)/\S+?):\d+:\d+: error: (.*)", re.M)
 HEAD = re.compile(r"^(?:pub )?(?:extern \"C\" )?fn (\w+)", re.M)
 # A declaration of a file of specs: what comes before it, and its name. A theorem has only `pub` before it.
 STATED = re.compile(r"^(?!use |module |--|unfolding )((?:(?:abbrev|unfoldable|pub|record|data) )*)([^\s:]+) (?:.* )?:", re.M)
@@ -53,7 +59,7 @@ def sentences(crate, changes):
     """The theorems whose statements an edit changes, and the definitions."""
     theorems, definitions = set(), set()
     for file, old, _ in changes:
-        if file.startswith("specs/"):
+        if file.startswith(("specs/", "proofs/")):
             source = (CRATES / crate / file).read_text()
             *_, last = (head for head in STATED.finditer(source) if head.start() <= source.index(old))
             (theorems if last[1] in ("", "pub ") else definitions).add(last[2])
@@ -75,26 +81,38 @@ def said_wrong(crate, edit, said, changes):
 
 def log_of(crate, edit):
     """What the prover said of an edit."""
-    path = ROOT / "target" / "must-fail" / crate / edit / ".log"
-    if not path.is_file():
-        raise Failed(f"{crate}/{edit}: no log, so no whole run of the gate came before")
-    return path.read_text()
+    return (tried.LOGS / crate / f"{edit}.log").read_text()
+
+
+def owner(crate, file):
+    """The function in whose folder a file of proofs lies."""
+    return "::".join([crate, *file.split("/")[1:-1]])
+
+
+def refused_for_facts(crate, edit, said, wrong):
+    """What the prover can't read of a proof is in those of the functions that an edit makes wrong, and not all that it refuses in one of them."""
+    reasons = collections.defaultdict(list)
+    for file, why in ERROR.findall(said):
+        reasons[owner(crate, file)].append(SHAPE.search(why))
+    for path, found in reasons.items():
+        if any(found) and (path not in wrong or all(found)):
+            raise Failed(f"{crate}/{edit}: {path} is refused for {next(filter(None, found))[0]!r}, which is no fact")
 
 
 def refused_alone(crate, edit, said, changes):
     """The functions that an edit makes wrong in their own text. Each has to be refused, and not for what it calls."""
     wrong = changed(crate, changes)
     for path in wrong:
-        verdict = re.search(rf"^fn {path}: not proved(.*)", said, re.M)
-        if not verdict or "; it calls" in verdict[1]:
+        verdict = re.search(rf"^fn {path}(?:{ALONE})(.*)", said, re.M)
+        if not verdict or verdict[0].startswith(f"fn {path}: not proved; it calls"):
             raise Failed(f"{crate}/{edit}: {path} is not refused by itself")
-    if SHAPE.search(said):
-        raise Failed(f"{crate}/{edit}: refused for {SHAPE.search(said)[0]!r}, which is no fact")
+    refused_for_facts(crate, edit, said, wrong)
     return wrong
 
 
 def counted():
     """How many edits there are, in how many of them each function is made wrong, and how many theorems are."""
+    tried.all_logs(list(edits()))
     count, seen, wrong = 0, collections.Counter(), 0
     for crate, edit, changes in edits():
         seen.update(refused_alone(crate, edit, log_of(crate, edit), changes))

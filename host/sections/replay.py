@@ -16,7 +16,7 @@ from sections import recorded as kept_scripts
 from sections import replies
 from sections.passwords import NO_CALLS
 
-PROGRAM = ROOT / "target" / "bin" / "replay"
+PROGRAM = harness.program("replay")
 SEEDS = range(60)
 MOST = 1 << 20  # bytes of input
 

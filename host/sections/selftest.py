@@ -50,16 +50,25 @@ def comparison_can_fail(driver):
 
 def refusals_can_fail(driver):
     """A wrong function that is let pass, or is refused for what it calls or for a proof's shape, is found."""
-    alone = "fn wordlist::word_at: not proved\n"
+    own = "fn wordlist::word_at: no proof: expected answers in ./proofs/word_at/Answers.antt; `search` did not prove `returns`"
+    calls = "it calls `wordlist::rows::row`, which is not proved\n"
+    differ = "./proofs/word_at/Answers.antt:9:5: error: `returns`: as printed, the two types first differ\n"
+    field, name = "`returns`: record `row` has no field `args`\n", "`returns`: module `Goals` has no `returns-in-At` that can be named\n"
+    alone = ["fn wordlist::word_at: not proved\n", f"{own}\n", f"{own}; {calls}"]
+    alone.append(f"{alone[0]}{differ}./proofs/word_at/Answers.antt:2:5: error: {name}")
     said = [
         "fn wordlist::word_at: proved\n",
         "fn wordlist::place_of: not proved\n",
-        "fn wordlist::word_at: not proved; it calls `wordlist::rows::row`, which is not proved\n",
-        alone + "Proof.antt:13:23: error: `returns`: record `After-row` has no field `args`\n",
+        f"fn wordlist::word_at: not proved; {calls}",
+        f"fn wordlist::word_at: no proof: {calls}",
+        f"{alone[0]}./proofs/word_at/Answers.antt:13:23: error: {field}",
+        f"{alone[0]}./proofs/word_at/Answers.antt:2:5: error: {name}",
+        f"{alone[0]}{differ}./proofs/place_of/Answers.antt:2:5: error: {name}",
+        f"{alone[0]}{differ}./proofs/Arms.antt:2:5: error: {name}",
     ]
     change = ("src/lib.rt", "words[place % 16]", "words[0]")
-    held = [lambda log=log: refused.refused_alone("wordlist", "an edit", log, [change]) for log in [alone, *said]]
-    found = [not fails(held[0]), *(fails(check) for check in held[1:]), *theorems_refused()]
+    held = [lambda log=log: refused.refused_alone("wordlist", "an edit", log, [change]) for log in [*alone, *said]]
+    found = [*(not fails(check) for check in held[:len(alone)]), *(fails(check) for check in held[len(alone):]), *theorems_refused()]
     if not all(found):
         raise Failed(f"of the {len(found)}, as they should be: {found}")
     return f"{len(found)} logs: a wrong function or theorem that is not refused by itself is reported, and nothing else"
@@ -68,11 +77,11 @@ def refusals_can_fail(driver):
 def theorems_refused():
     """Two theorems made wrong in one edit, of which each is refused; one isn't, or only for what it cites. A definition beside them, for which another
     theorem is refused, or none is; and two definitions."""
-    begins, in_line = ("specs/Demand3.antt", "TurnBegins p i 180 later", ""), ("specs/TablesMade.antt", "(s .rooms)) ≤ 4", "")
-    example, empty = ("specs/Examples.antt", "DUAL NUT", ""), ("specs/NoAccounts.antt", "answerWithout (Call.Remove id) =", "")
-    log = "".join(f"specs/A.antt:1:1: error: `{name}`: expected type\n" for name in ("turn-begins", "four-in-line"))
-    cited = "error: `four-in-line`: `turn-begins` was not admitted\n"
-    more = "error: `examples-hold`: differ\n"
+    begins, in_line = ("specs/Demand3.antt", "TurnBegins p i 180 later", ""), ("specs/TablesMade.antt", "s.rooms) ≤ 4", "")
+    example, empty = ("specs/Examples.antt", "DUAL NUT", ""), ("specs/NoAccounts.antt", "answer_without (Call.Remove id) =", "")
+    log = "".join(f"specs/A.antt:1:1: error: `{name}`: expected type\n" for name in ("turn_begins", "four_in_line"))
+    cited = "error: `four_in_line`: `turn_begins` was not admitted\n"
+    more = "error: `examples_hold`: differ\n"
 
     def held(said, *changes):
         return refused.said_wrong("demands", "an edit", said, [begins, in_line, *changes])
@@ -81,8 +90,22 @@ def theorems_refused():
             not fails(held, log + more, example), fails(held, log, example), fails(held, log + more, example, empty)]
 
 
+def runs_of_the_gate():
+    """What rt ci says of two crates and three edits, and of a program for which more is made than its sources have; then of an edit more, of a bad one, of
+    a crate that isn't proved, of a library with a function that no head was found for, of fewer functions than there are; and what is no end of a run."""
+    crates = {"table": 4, "card": 1}
+    said = ("== table\nfn table::fresh: proved\nlogic=proved functions=4 sum=0\nrt: table proved\n== card\nlogic=proved functions=2 axioms=8\n"
+            "rt: ok; handles allowed: none; must-fail edits: 3 refused; every proof and must-fail edit was done in this run\n5 passed, 0 failed\n")
+    kept = said[said.index("rt: ok"):]
+    wrong = [(said, 4), *((said.replace(*change), 3) for change in
+                          ((" refused;", " refused, 1 bad;"), ("5 passed, 0", "4 passed, 1"), ("functions=4", "functions=5"), ("functions=4", "functions=3"),
+                           ("functions=2", "functions=0"), ("failed\n", "failed\nmore\n"), ("rt: ok", "rt: note")))]
+    return [not fails(docs.whole_run, said, crates, 3), not fails(docs.whole_run, kept, crates, 3),
+            *(fails(docs.whole_run, text, crates, edits) for text, edits in wrong)]
+
+
 def gate_can_fail(driver):
-    """A flag that .ci/run has and the README has not, or the other way round, is found."""
+    """A flag that .ci/run has and the README has not, or the other way round, is found; so is a run of the gate that isn't as it should be."""
     readme = "## Test it\n\n```console\n$ make %stest\n```\n"
     run = "\n".join(["#!/usr/bin/env bash", *commands.TO_THE_TOP, "exec make test", ""])
     found = [
@@ -91,10 +114,11 @@ def gate_can_fail(driver):
         fails(commands.same_command, readme % "", run.replace("exec", "export MAKEFLAGS=-s\nexec")),
         fails(commands.same_command, readme % "-s ", run),
         fails(commands.same_command, readme % "", run + "true\n"),
+        *runs_of_the_gate(),
     ]
     if not all(found):
-        raise Failed(f"of the five, as they should be: {found}")
-    return f"{len(found)} pairs of commands: a flag in one of them is reported, and nothing else"
+        raise Failed(f"of the {len(found)}, as they should be: {found}")
+    return f"{len(found)} pairs of commands and runs: a flag in one of them, and what isn't so of a run, is reported, and nothing else"
 
 
 def without_each(check, whole):
@@ -371,7 +395,7 @@ def coverage_can_fail(driver):
 
 def drawings():
     """A drawing that is true, and three that aren't: a use to the left, a crate drawn twice, one not drawn."""
-    crates = {"card": ["cards", "io"], "cards": ["text"], "text": []}
+    crates = {"card": ["cards", "check"], "cards": ["text"], "text": []}
     right = "What stands higher uses what stands below it:\n\n    card   a program\n    cards  text   the rest\n\n"
     wrong = [right.replace("cards  text", "text  cards"), right.replace("    card ", "    text  card "),
              right.replace("cards  text", "cards")]
@@ -382,7 +406,7 @@ def drawings():
 def imports():
     """A page all of whose imports are used, and three with one that isn't; a line of 160 characters, and one of 161."""
     page = pathlib.Path("Page.antt")
-    text = "use a.B.{one, _two_}\nuse a.C as c\n\nthree : one two c.x\nthree = one\n"
+    text = "use a.B.{one, ◌two◌}\nuse a.C as c\n\nthree : one two c.x\nthree = one\n"
     unused = [list(tidy.unused(page, each)) for each in
               (text, text.replace(" c.x", ""), text.replace(" two", ""), text.replace("one two", "ones two").replace("= one", "= 1"))]
     return [not unused[0], *map(bool, unused[1:]), not list(tidy.wide("x" * 160)), bool(list(tidy.wide("x\n" + "x" * 161)))]
@@ -440,7 +464,7 @@ def lists_can_fail(driver):
     text, sources = "```rust\nfn one() {}\n```\n", {"rust": ["fn two() {}\nfn one() {}\n"], "edit": []}
     quotations = [not fails(docs.quoted, text, sources), fails(docs.quoted, text.replace("one", "three"), sources),
                   fails(docs.quoted, text.replace("rust", "edit"), sources)]
-    crates = {"card": ["text", "io"], "text": ["refusal"], "refusal": [], "other": []}
+    crates = {"card": ["text", "check"], "text": ["refusal"], "refusal": [], "other": []}
     counts = [not fails(tools.counted, [("card", "3")], crates), fails(tools.counted, [("card", "4")], crates), fails(tools.counted, [], crates)]
     found = [*refusals(), *beliefs(), *quotations, *typing(), *counts]
     if not all(found):

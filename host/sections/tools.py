@@ -12,22 +12,27 @@ from sections import house
 FROM = {"rt": "the Rattle kit", "gcc": "Debian package gcc", "python3": "Debian package python3"}
 # what each target needs of these
 NEEDS = {"test": ["rt", "gcc", "python3"], "bench": ["rt", "gcc", "python3"], "compare": ["rt", "gcc", "python3"],
-         "soak": ["rt", "python3"], "card": ["rt"], "replay": ["rt"]}
+         "soak": ["rt", "python3"], "panel": ["rt"], "card": ["rt"], "replay": ["rt"]}
 
-# A stand-in for rt that has proved two crates of three, waits for a file, and goes on; it gives up after half a minute.
+# A stand-in for `rt run` that finds one crate of three as it was, proves the second, waits for a file, and goes on; it gives up after half a minute.
+# It says what rt says on standard error, and what the program prints on standard output.
 PROVING = """#!/bin/bash
-echo 'rt: refusal proved (unchanged since it was last proved)'
-echo 'note: text'
-echo 'rt: text proved (4 s)'
+[ "$* in ${PWD##*/crates/}" = 'run in card' ] || exit 8
+echo 'note: text' >&2
+echo 'crate text: modules loaded=547 checked=0' >&2
+echo 'logic=proved functions=17' >&2
 for _ in {1..600}; do [ -e "$GO_ON" ] && break; sleep 0.05; done
 [ -e "$GO_ON" ] || exit 9
-echo 'rt: card proved (3 s)' >&2
+echo 'crate card: modules loaded=0 checked=83' >&2
+echo 'logic=proved functions=2 axioms=8' >&2
+echo 'refused 20'
 exit "$STATUS"
 """
-CRATES = "# a comment\ncard: text io libc\ntext: refusal\nother: text\nrefusal:\n"
-BEFORE = ["first, this once: 2 of the 3 crates of card are to be proved, which takes some minutes", "proved: 2 of 3, text (4 s)"]
-AFTER = ["proved: 3 of 3, card (3 s)"]
-WHOLE = ["rt: refusal proved (unchanged since it was last proved)", "note: text", "rt: text proved (4 s)", "rt: card proved (3 s)"]
+CRATES = "# a comment\ncard: text check\ntext: refusal\nother: text\nrefusal:\n"
+BEFORE = ["first, this once: 2 of the 3 crates of card have no proof here yet, which may take some minutes", "proved: 2 of 3, text (N s)"]
+AFTER = ["proved: 3 of 3, card (N s)"]
+WHOLE = ["note: text", "crate text: modules loaded=547 checked=0", "logic=proved functions=17", "crate card: modules loaded=0 checked=83",
+         "logic=proved functions=2 axioms=8"]
 
 
 def put(path, text):
@@ -63,15 +68,20 @@ def copied(folder, script):
     return folder / script
 
 
+def untimed(line):
+    """The line without how many seconds a proof took."""
+    return re.sub(r"\(\d+ s\)$", "(N s)", line)
+
+
 def proving(folder, status):
     """host/prove on the stand-in: what it says before the stand-in goes on, all that it says, what it prints, how it ends."""
     go_on = folder / f"go-on-{status}"
     child = subprocess.Popen([copied(folder, "host/prove"), "card"], stdin=subprocess.DEVNULL, stdout=subprocess.PIPE, stderr=subprocess.PIPE,
                              env=typed(PATH=f"{folder}:{os.environ['PATH']}", GO_ON=str(go_on), STATUS=str(status)), text=True)
-    before = [child.stderr.readline().rstrip("\n") for _ in BEFORE]
+    before = [untimed(child.stderr.readline().rstrip("\n")) for _ in BEFORE]
     go_on.touch()
     printed, after = child.communicate(timeout=60)
-    return before, after.splitlines(), printed, child.returncode
+    return before, list(map(untimed, after.splitlines())), printed, child.returncode
 
 
 def by_rt():
@@ -79,7 +89,7 @@ def by_rt():
     with tempfile.TemporaryDirectory() as name:
         folder = pathlib.Path(name)
         (folder / "crates.txt").write_text("one:\n")
-        put(folder / "crates" / "one" / "src" / "lib.rt", "pub fn one() -> u8 {\n    1\n}\n")
+        put(folder / "crates" / "one" / "src" / "lib.rt", "#![tactic(auto)]\n\npub fn one() -> u8 {\n    1\n}\n")
         done = subprocess.run([copied(folder, "host/prove"), "one"], timeout=300, env=typed(), stdin=subprocess.DEVNULL,
                               stdout=subprocess.PIPE, stderr=subprocess.PIPE, text=True)
     if done.returncode or done.stdout or not re.search(r"^proved: 1 of 1, one \(\d+ s\)$", done.stderr, re.M):
@@ -92,7 +102,8 @@ def progress(driver):
         folder = pathlib.Path(name)
         (folder / "crates.txt").write_text(CRATES)
         put(folder / "rt", PROVING)
-        put(folder / "target" / "stamp" / "refusal", "")
+        put(folder / "crates" / "card" / "src" / "main.rt", "")
+        put(folder / "crates" / "refusal" / "out" / "rlib" / "stamp", "")
         for status, after in ((0, AFTER), (1, AFTER + WHOLE)):
             found = proving(folder, status)
             if found != (BEFORE, after, "", status):
@@ -130,7 +141,7 @@ def needed(driver):
 def started(folder, machine):
     """What host/x86_64/run starts on that machine, and what is on standard input there."""
     put(folder / "uname", f"#!/bin/sh\necho {machine}\n")
-    put(folder / "rt", f'#!/bin/sh\n[ "$*" = doc ] && echo {folder}/kit/docs/START-HERE.md\n')
+    put(folder / "rt", f'#!/bin/sh\n[ "$*" = doc ] && echo {folder}/kit/START-HERE.md\n')
     put(folder / "card", '#!/bin/sh\necho "card $*"\ncat\n')
     put(folder / "kit" / "on" / machine / "toolchain" / "bin" / "qemu-x86_64", '#!/bin/sh\necho "$@"\ncat\n')
     done = subprocess.run([copied(folder, "host/x86_64/run"), folder / "card", "a"], input=b"three lines", timeout=60,
