@@ -116,10 +116,22 @@ def mapping(own):
     return {n: t for n, t in turned.items() if n != t}
 
 
-def turn_antt(text, turned):
+def quoted(text, at):
+    """Whether the place lies between the quotes of a string of its line, or between the back quotes of a comment."""
+    line = text[text.rfind("\n", 0, at) + 1 : at]
+    return line.count('"') % 2 == 1 or ("--" in line and line.count("`") % 2 == 1)
+
+
+def turn_antt(text, turned, by_hand=False):
+    """A file's text with its names turned; `by_hand`: of a proof that walks the code, whose fields have names that Rattle makes."""
+    modules = {n: n.replace("-", "_") for n in re.findall(r"(?m)^use \S+ as (\S*-\S*)$", text)}
+    turned = turned | modules
+
     def one(m):
         token, before = m[1], text[max(0, m.start() - 1) : m.start()]
-        if before == "." and ("-" in token or not re.search("[a-z][A-Z]", token)):
+        if quoted(text, m.start()):
+            return token
+        if before == "." and (by_hand and "-" in token or not re.search("[a-z][A-Z]|-", token)):
             start = text.rfind("\n", 0, m.start()) + 1
             path = re.search(r"[\w.+'-]*\.$", text[start : m.start()])
             if not (path and path[0].startswith("Rattle.")):
@@ -137,7 +149,7 @@ def turn_source(text, turned):
             return it
         it = re.sub(r"(?<!\w)[a-z]\w*", lambda m: turned.get(m[0], m[0]) if re.search("[a-z][A-Z]", m[0]) else m[0], it)
         if it.startswith("ghost use Rattle."):
-            it = turn_antt(it, turned)
+            it = turn_antt(it, {n: t for n, t in turned.items() if re.search("[A-Z]|-", n)})
         return it
 
     return "\n".join(line(it) for it in text.split("\n"))
@@ -206,7 +218,7 @@ def main(argv):
         text = old
         for module, other in ALIASES.get(os.path.relpath(path, top), {}).items():
             text = re.sub(rf"\b{module}(?=\.[A-Z])(?<!\.)(?!\.Reads as)|(?<= as ){module}$", other, text, flags=re.M)
-        text = turn_antt(text, turned) if antt else turn_source(text, turned)
+        text = turn_antt(text, turned, path.endswith("Proof.antt")) if antt else turn_source(text, turned)
         write(path, turn_crates(text, antt), old)
     listing = os.path.join(top, "crates.txt")
     old = read(listing)

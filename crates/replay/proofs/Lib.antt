@@ -2,4 +2,3 @@
 pub mod WordsScanned
 pub mod Paired
 pub mod WordPlaces
-pub mod HeldTo

@@ -1,2 +1,0 @@
--- What the proofs of `text`'s functions share.
-pub mod Ranges
