@@ -13,13 +13,13 @@ needs = $(if $(call missing,$(1)),$(error make $@: not on the PATH: $(call missi
 # The gate: rt ci, which looks at the layout, at every proof, at the must-fail edits and at what the programs write; then the host tests.
 # Where an edit is bad, rt ci passes all the same: its line `rt: ok` has to be there and to say of none that it is. rt ci's verdict is
 # printed once more at the end; whatever fails ends it with a status other than 0. What rt ci says stays in target/ci.log, for the host tests.
-CI_LOG ?= target/ci.log
+GLIMMERHAUGH_CI_LOG ?= target/ci.log
 test:
 	$(call needs,rt gcc python3)
 	@set -euo pipefail; \
 	said=$$(mktemp); trap 'rm -f "$$said"' EXIT; \
 	status=0; rt ci | tee "$$said" || status=$$?; \
-	mkdir -p "$(dir $(CI_LOG))"; cp "$$said" "$(CI_LOG)"; \
+	mkdir -p "$(dir $(GLIMMERHAUGH_CI_LOG))"; cp "$$said" "$(GLIMMERHAUGH_CI_LOG)"; \
 	[ $$status -eq 0 ] || exit $$status; \
 	grep -q '^rt: ok' "$$said" || { echo "make test: rt ci has no line 'rt: ok'" >&2; exit 1; }; \
 	! grep -E '^rt: ok.*, [0-9]+ bad' "$$said" >&2 || { echo 'make test: must-fail edits are bad' >&2; exit 1; }; \

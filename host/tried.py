@@ -76,7 +76,8 @@ def key_of(crate, changes):
 
 def workers():
     """As many as there are processors and memory for."""
-    free = os.sysconf("SC_AVPHYS_PAGES") * os.sysconf("SC_PAGE_SIZE")
+    said = pathlib.Path("/proc/meminfo").read_text()
+    free = int(re.search(r"^MemAvailable:\s+(\d+) kB", said, re.M)[1]) << 10
     return max(1, min(len(os.sched_getaffinity(0)), free // MEMORY))
 
 

@@ -52,7 +52,7 @@ def stand_ins(folder):
 def gate(path, words, more, framed):
     """`make test` on stand-ins: its steps in order, the verdict last; and a step that fails, a bad verdict or a bad edit fails it."""
     log = path.partition(":")[0] + "/kept/ci.log"
-    good = {**more, "PATH": path, "FAILS": "", "OK": OK, "VERDICT": VERDICT, "CI_LOG": log}
+    good = {**more, "PATH": path, "FAILS": "", "OK": OK, "VERDICT": VERDICT, "GLIMMERHAUGH_CI_LOG": log}
     status, lines = printed("test", words, good)
     if status != 0 or between(lines, framed) != STEPS or pathlib.Path(log).read_text().splitlines() != STEPS[:3]:
         raise Failed(f"make {' '.join(words)} test: status {status}, {lines}")

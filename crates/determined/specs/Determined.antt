@@ -40,7 +40,7 @@ abbrev pub AnswersAndLent : {K : Type 0} {A R E : K → Type 0} {S : Type 0} →
 AnswersAndLent {K} {A} {R} {E} Promise lent =
     (k : K) (a : A k) (y z : R k) (e f : E k) → Promise k a y e → Promise k a z f → (y ≡ z) × (lent k e ≡ lent k f)
 
--- A promise as the prover has it, an assertion, in place of `Learnt`, as of a function that is proved by hand: who has it of two ends, e and
+-- A promise as the prover has it, an assertion, in place of `Learnt`, as of a function on a lent record: who has it of two ends, e and
 -- f, has that what was lent is the same at both.
 abbrev pub Promised : Ended → Type 2
 Promised E = (M : Type 1) (𝓤 : Ura M) → (𝓛 : Logic 𝓤) → (Memory → SProp 𝓤) → (Routine → Fun 𝓤) → Clauses 𝓤 E

@@ -73,7 +73,7 @@ pub fn wrong(port: &mut Port)
     *port = wrong_step(*port);
 }
 
-// The table's calls hand a record over, which is lent to these three: who calls with plain values needs no walk by hand.
+// The table's calls hand a record over, which is lent to these three: so who has plain values lends nothing.
 
 pub fn after_tick(mut port: Port) -> Port
     ensures { result ≡ cooled port }

@@ -125,7 +125,7 @@ housed_outcome call s (Outcome.accepted z port next g n o i a k x) h =
 housed_outcome call s (Outcome.rejected z port g n o) h = housed_leaves port s _ h
 housed_outcome call s (Outcome.ticked z o) h = housed_lines ticked fewer_ticked ticked-empty s _ h
 
--- So it is in the fresh table; that every call keeps them apart is housed_after, in proofs/Outcomes.antt.
+-- So it is in the fresh table; that every call keeps them apart is `housed_after`, in proofs/Outcomes.antt.
 pub housed_fresh : Housed fresh
 unfolding times in_lines
 housed_fresh = record {
