@@ -1,15 +1,16 @@
 -- The law of rows, and how an answer behind checks goes by theirs.
-use Rattle.std.specs.Prelude.{ℕ, ◌≤◌, ◌<◌, ◌≡◌, Bool, cond, not, ◌&&◌, leb, ltb}
-use Rattle.std.proofs.Common.{arith, ap₂, ◌∙◌, subst, ltb-true, leb-true}
+use Rattle.std.specs.Prelude.{ℕ, ◌≤◌, ◌<◌, ◌≡◌, Bool, cond, not, ◌&&◌, ◌||◌, eqb, leb, ltb}
+use Rattle.std.proofs.Common.{arith, ap₂, ◌∙◌, subst, eqb-true, ltb-true, leb-true}
 use Rattle.std.proofs.Math.Path.{refl, sym, ap}
 use Rattle.std.proofs.Math.Bool.{true, false}
+use Rattle.std.proofs.lemmas.Bool.{false≢true}
 use mathlib.Core.List.{List, [], ◌∷◌, ◌++◌}
 use Rattle.refusal.specs.declared.Refusal.{Refusal}
 use Rattle.refusal.specs.declared.Checked.{Checked}
 use Rattle.refusal.specs.Numbers.{listing_of}
 use Rattle.refusal.specs.Checks.{must, unless}
 use Rattle.refusal.specs.Laws.{must_good}
-use Rattle.text.specs.Tests.{both}
+use Rattle.text.specs.Tests.{every, both}
 use Rattle.grounds.specs.Listed.{is_in, listed}
 use Rattle.grounds.specs.Conditions.{Row, NoneHolds, FirstHolds, Exactly}
 
@@ -48,6 +49,19 @@ refusal_listed Refusal.ReplyWrong = refl
 refusal_listed Refusal.ReplyWrongThird = refl
 refusal_listed Refusal.SeedSame = refl
 refusal_listed Refusal.LinesOutside = refl
+
+-- What holds of each number of a list holds of one that stands in it.
+in_every : (test : ℕ → Bool) (n : ℕ) (ns : List ℕ) → is_in n ns ≡ true → every test ns ≡ true → test n ≡ true
+unfolding every
+in_every test n [] e h = absurd (false≢true e)
+in_every test n (m ∷ ns) e h = go (eqb n m) refl e (in_every test n ns)
+  where
+    halves : (test m ≡ true) × (every test ns ≡ true)
+    halves = both (test m) (every test ns) h
+
+    go : (b : Bool) → eqb n m ≡ b → (b || is_in n ns) ≡ true → (is_in n ns ≡ true → every test ns ≡ true → test n ≡ true) → test n ≡ true
+    go true f e later = ap test (eqb-true n m f) ∙ halves.0
+    go false f e later = later e halves.1
 
 -- A refusal's number is not 0, and no larger than a count: from each refusal's number, not from the list.
 bounded : (why : Refusal) → (ltb 0 (listing_of why).0 && leb (listing_of why).0 9999) ≡ true
