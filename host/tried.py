@@ -4,10 +4,6 @@
 down in what the prover says. So each edit is tried once more, by `rt check` on a copy of the repository outside this one, as many at a time as there are
 processors and memory. What was said comes to lie in target/must-fail/CRATE/EDIT.log. It is kept beside that for this user of the machine, by the checksum
 of all that such a check reads, as `rt ci` keeps what it passed: an edit is tried again once its text, its crate, a crate below or the kit has changed.
-
-The prover names a step by the code's own words, as `then-count-gt9999`. Where an edit words a condition otherwise, the answers to that function's goals
-cite names that are gone, which says nothing of what the function promises. So the names are brought after the edit in the copy, as
-`then-count-gt10000`, and the check is made once more: the answers are then refused for what they say, or not at all.
 """
 import concurrent.futures
 import functools
@@ -30,16 +26,8 @@ from sections import house  # noqa: E402
 PARTS = ("src", "specs", "proofs")
 LOGS = ROOT / "target" / "must-fail"
 KEPT = pathlib.Path(os.environ.get("XDG_CACHE_HOME") or pathlib.Path.home() / ".cache") / "glimmerhaugh" / "must-fail"
-# another one, where this file comes to try edits otherwise
-FORM = "names of branches and steps after the edit"
 # what a check may take of the memory, in bytes, and how long one may last
 MEMORY, SECONDS = 4 << 30, 1800
-# what the prover says of a function's answers that cite a goal which is gone, and which goals there are; and of a step that is gone
-LACKING = re.compile(r"module `Rattle\.\w+\.proofs\.([\w.]+)\.Goals` has no `([\w-]+)`")
-ASKED = re.compile(r"^help: `Goals` has no `([\w-]+)`; rattle asks for (.*?)(?: and \d+ more)?;", re.M)
-STEPS = re.compile(r"^\./proofs/(\S+)/\w+\.antt:\d+:\d+: error: .*record `[^`]*` has no field `([\w-]+)` \(nearest: (.*)\)$", re.M)
-# a goal in a branch, or a step into one, by the condition's words
-BRANCH = re.compile(r"(.*(?:then|else)-|if-)(.+)")
 
 
 @functools.cache
@@ -70,7 +58,7 @@ def under(crate, crates):
 def key_of(crate, changes):
     """A checksum of all that a check of the crate with an edit reads."""
     crates = house.listed()
-    texts = [kit(), FORM, repr(changes), *(f"{name} {crates[name]} {sum_of(name)}" for name in sorted(under(crate, crates)))]
+    texts = [kit(), repr(changes), *(f"{name} {crates[name]} {sum_of(name)}" for name in sorted(under(crate, crates)))]
     return hashlib.sha256("\n".join(texts).encode()).hexdigest()
 
 
@@ -108,50 +96,11 @@ def edited(folder, crate, changes):
     return before
 
 
-def gone(said):
-    """The names in the proofs of functions that are gone with an edit: the function's folder, the name, and those that are there."""
-    asked = dict(ASKED.findall(said))
-    found = [(place.replace(".", "/"), goal, re.findall(r"`([\w-]+)`", asked.get(goal, ""))) for place, goal in LACKING.findall(said)]
-    return found + [(place, step, re.findall(r"\.([\w-]+)", nearest)) for place, step, nearest in STEPS.findall(said)]
-
-
-def likest(name, there, text):
-    """What a name that is gone is called now, as what to look for and what to put there: a branch, or another step; none, where nothing is like it. What
-    the text cites already is something else."""
-    branch = BRANCH.fullmatch(name)
-    begun, old = branch.groups() if branch else ("", name)
-    new = [each.removeprefix(begun) for each in there if each.startswith(begun) and not re.search(rf"[-.]{re.escape(each.removeprefix(begun))}(?![\w-])", text)]
-    if not branch:
-        new = [each for each in new if each.startswith(f"{old}-")]
-    best = min(new, key=lambda each: (abs(each.count("-") - old.count("-")), sum(part not in old.split("-") for part in each.split("-"))), default=None)
-    before = r"\b(?:[Tt]hen|[Ee]lse|if)-" if branch else r"\."
-    return best and (rf"({before}){re.escape(old)}(?![\w{'' if branch else '-'}])", rf"\g<1>{best}", f"{old} is {best}")
-
-
-def names_after(folder, crate, said):
-    """Brings the names of steps in the proofs of functions after the edit. Hands back what the files had, and which names are others now."""
-    before, names = {}, []
-    for place, name, there in gone(said):
-        paths = sorted((folder / "crates" / crate / "proofs" / place).glob("*.antt"))
-        found = likest(name, there, "".join(path.read_text() for path in paths))
-        if found and f"{place}: {found[2]}" not in names:
-            names.append(f"{place}: {found[2]}")
-            for path in paths:
-                before.setdefault(path, path.read_text())
-                path.write_text(re.sub(found[0], found[1], path.read_text()))
-    return before, names
-
-
 def log_of(folder, crate, changes):
     """What the prover says of the crate with the edit. A check that is no verdict is an error."""
     before = edited(folder, crate, changes)
     try:
         said, status = check(folder, crate)
-        more, names = names_after(folder, crate, said)
-        before.update(more)
-        if names:
-            said, status = check(folder, crate)
-            said = "".join(f"names after the edit, {each}\n" for each in names) + said
     finally:
         for path, text in before.items():
             path.write_text(text)

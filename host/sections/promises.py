@@ -10,6 +10,8 @@ PAGE = ROOT / "docs" / "PROMISES.md"
 DETERMINED = CRATES / "determined" / "specs"
 # the headings of the page whose rows lead from a paper's sentence to its statement
 PAPERS = ("The letter's demands", "Document 01", "Document 02")
+# the pages whose theorems stand among the proofs: what they rest on is turned by edits of definitions (docs/PORT.md)
+AMONG_PROOFS = {("dictionary", "InOrder"), ("reached", "Outcomes"), ("grounds", "CallsRefused")}
 
 
 def section(heading):
@@ -71,7 +73,7 @@ def other_names():
 def theorems():
     """The theorems of the sentences of the letter and of the documents. Those that rest on what an edit of a definition turns stand among the proofs."""
     stated = set()
-    for path in [*CRATES.glob("*/specs/**/*.antt"), *CRATES.glob("*/proofs/*.antt")]:
+    for path in [*CRATES.glob("*/specs/**/*.antt"), *(CRATES / crate / "proofs" / f"{page}.antt" for crate, page in AMONG_PROOFS)]:
         stated |= set(re.findall(r"^\s*pub ([\w-]+)(?: \{[^}]*\})? :", path.read_text(), re.M))
     names = {name for heading in PAPERS for cells in section(heading)
              for name in re.findall(r"`([a-z\d]+(?:[_-][a-z\d]+)+)`", cells[1])} - (other_names() - stated)
@@ -97,7 +99,7 @@ def pages():
     names = {pair for heading in PAPERS for cells in section(heading)
              for pair in re.findall(r"`(\w+)` ([A-Z]\w+)", cells[1])}
     for crate, page in sorted(names):
-        if not any((CRATES / crate / part / f"{page}.antt").is_file() for part in ("specs", "proofs")):
+        if not (CRATES / crate / ("proofs" if (crate, page) in AMONG_PROOFS else "specs") / f"{page}.antt").is_file():
             raise Failed(f"no such file: {page} of {crate}")
     return len(names)
 

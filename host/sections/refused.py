@@ -6,13 +6,10 @@ import tried
 from harness import ROOT, Failed
 from sections.promises import CRATES, public
 
-# What the prover says where a name is missing or a step of a proof no longer fits. No function may be refused for that alone: today's prover names a step
-# by the code's own words, so that a proof may also cite a step that an edit words otherwise, beside a goal that no longer holds.
+# What the prover says where a name is missing or a step of a proof no longer fits. No edit may be refused for that.
 SHAPE = re.compile(r"is not in scope|has no field|has no `|this has type `tie\.Need|no occurrence of the path's left endpoint")
 # What it says of a function: that a proof that is there fails, or that a goal of its own is left; or only that it calls one of which it says so.
 ALONE = r": (?:not proved|no proof: expected answers in .* did not prove [^;]*)"
-# What it refuses in a file of proofs or specs: the file, without its crate, and why.
-ERROR = re.compile(r"^(?:\./)?((?:proofs|specs)/\S+?):\d+:\d+: error: (.*)", re.M)
 HEAD = re.compile(r"^(?:pub )?(?:extern \"C\" )?fn (\w+)", re.M)
 # A declaration of a file of specs: what comes before it, and its name. A theorem has only `pub` before it.
 STATED = re.compile(r"^(?!use |module |--|unfolding )((?:(?:abbrev|unfoldable|pub|record|data) )*)([^\s:]+) (?:.* )?:", re.M)
@@ -84,21 +81,6 @@ def log_of(crate, edit):
     return (tried.LOGS / crate / f"{edit}.log").read_text()
 
 
-def owner(crate, file):
-    """The function in whose folder a file of proofs lies."""
-    return "::".join([crate, *file.split("/")[1:-1]])
-
-
-def refused_for_facts(crate, edit, said, wrong):
-    """What the prover can't read of a proof is in those of the functions that an edit makes wrong, and not all that it refuses in one of them."""
-    reasons = collections.defaultdict(list)
-    for file, why in ERROR.findall(said):
-        reasons[owner(crate, file)].append(SHAPE.search(why))
-    for path, found in reasons.items():
-        if any(found) and (path not in wrong or all(found)):
-            raise Failed(f"{crate}/{edit}: {path} is refused for {next(filter(None, found))[0]!r}, which is no fact")
-
-
 def refused_alone(crate, edit, said, changes):
     """The functions that an edit makes wrong in their own text. Each has to be refused, and not for what it calls."""
     wrong = changed(crate, changes)
@@ -106,7 +88,8 @@ def refused_alone(crate, edit, said, changes):
         verdict = re.search(rf"^fn {path}(?:{ALONE})(.*)", said, re.M)
         if not verdict or verdict[0].startswith(f"fn {path}: not proved; it calls"):
             raise Failed(f"{crate}/{edit}: {path} is not refused by itself")
-    refused_for_facts(crate, edit, said, wrong)
+    if SHAPE.search(said):
+        raise Failed(f"{crate}/{edit}: refused for {SHAPE.search(said)[0]!r}, which is no fact")
     return wrong
 
 

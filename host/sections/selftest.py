@@ -55,7 +55,6 @@ def refusals_can_fail(driver):
     differ = "./proofs/word_at/Answers.antt:9:5: error: `returns`: as printed, the two types first differ\n"
     field, name = "`returns`: record `row` has no field `args`\n", "`returns`: module `Goals` has no `returns-in-At` that can be named\n"
     alone = ["fn wordlist::word_at: not proved\n", f"{own}\n", f"{own}; {calls}"]
-    alone.append(f"{alone[0]}{differ}./proofs/word_at/Answers.antt:2:5: error: {name}")
     said = [
         "fn wordlist::word_at: proved\n",
         "fn wordlist::place_of: not proved\n",
@@ -63,6 +62,7 @@ def refusals_can_fail(driver):
         f"fn wordlist::word_at: no proof: {calls}",
         f"{alone[0]}./proofs/word_at/Answers.antt:13:23: error: {field}",
         f"{alone[0]}./proofs/word_at/Answers.antt:2:5: error: {name}",
+        f"{alone[0]}{differ}./proofs/word_at/Answers.antt:2:5: error: {name}",
         f"{alone[0]}{differ}./proofs/place_of/Answers.antt:2:5: error: {name}",
         f"{alone[0]}{differ}./proofs/Arms.antt:2:5: error: {name}",
     ]
