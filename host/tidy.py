@@ -13,8 +13,8 @@ WIDEST = 160
 IMPORT = re.compile(r"^((?:ghost |pub )?use )([^\s;{]+?)(?:\.\{([^}]*)\})?(?: as ([^\s;]+))?(;?)$", re.M)
 
 
-# A trait of the kit's library is imported for its methods, by which it is used.
-METHODS = {"Read": ["read", "read_exact", "read_to_end"], "Write": ["write", "write_all", "flush"], "BufRead": ["read_line", "read_until", "lines"]}
+# A trait is imported for its methods, by which it is used.
+METHODS = {"Read": ["read", "read_exact", "read_to_end", "take"], "Write": ["write", "write_all", "flush"], "BufRead": ["read_line", "read_until", "lines"], "Folded": ["folded"]}
 
 
 def sources():

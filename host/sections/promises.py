@@ -21,6 +21,27 @@ def section(heading):
             if line.startswith("|")][2:]
 
 
+def heads(text):
+    """Each function of a source, with its owner's name, none where it stands by itself, and its head. A trait's own functions are among them, since
+    they have the clauses; those that an impl of a trait has by name have none of their own."""
+    owner, indent, head = "", "", None
+    for line in text.splitlines():
+        opened = re.match(r"(?:pub )?(?:impl\b(?:<[^>]*>)?(?: .* for)?|trait) (\w+)", line)
+        owner = opened[1] if opened else "" if line == "}" else owner
+        begun = re.match(r"( {4}|)(?:pub )?(?:extern \"C\" )?fn (\w+)", line)
+        if begun:
+            indent, head = begun[1], []
+        if head is None:
+            continue
+        head.append(line[len(indent):])
+        if line == indent + "{" or (indent and line.endswith(";")):
+            name = re.search(r"fn (\w+)", head[0])[1]
+            yield "::".join([*([owner] if indent else []), name]), "\n".join(head)
+            head = None
+        elif line.endswith("{"):
+            head = None
+
+
 def functions():
     """Each function of a library that others rely on, by its path, with its head: visibility, name and clauses."""
     for crate in sorted(CRATES.iterdir()):
@@ -29,8 +50,8 @@ def functions():
                 continue
             inside = source.relative_to(crate / "src").with_suffix("").parts
             path = [crate.name, *(part for part in inside if part != "lib")]
-            for head in re.findall(r"^(?:pub )?(?:extern \"C\" )?fn .*?^\{", source.read_text(), re.M | re.S):
-                yield "::".join([*path, re.search(r"fn (\w+)", head)[1]]), head
+            for name, head in heads(source.read_text()):
+                yield "::".join([*path, name]), head
 
 
 def named(cells):
@@ -117,7 +138,8 @@ def public():
     """The functions of the libraries that another crate can name; those that a thin crate hands to C are another's."""
     for name, head in functions():
         crate, *inside, _ = name.split("::")
-        if head.startswith("pub ") and crate not in house.THIN and listing.is_open(ROOT, crate, inside):
+        modules = [part for part in inside if not part[0].isupper()]
+        if head.startswith("pub ") and crate not in house.THIN and listing.is_open(ROOT, crate, modules):
             yield name
 
 

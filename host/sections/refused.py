@@ -10,7 +10,9 @@ from sections.promises import CRATES, public
 SHAPE = re.compile(r"is not in scope|has no field|has no `|this has type `tie\.Need|no occurrence of the path's left endpoint")
 # What it says of a function: that a proof that is there fails, or that a goal of its own is left; or only that it calls one of which it says so.
 ALONE = r": (?:not proved|no proof: expected answers in .* did not prove [^;]*)"
-HEAD = re.compile(r"^(?:pub )?(?:extern \"C\" )?fn (\w+)", re.M)
+HEAD = re.compile(r"^( {4}|)(?:pub )?(?:extern \"C\" )?fn (\w+)", re.M)
+# The type that an impl's functions belong to, and the trait, which the prover names behind it.
+OWNER = re.compile(r"^(?:pub )?(?:impl\b(?:<[^>]*>)?(?: (\w+)[^\n{]* for)?|trait) (\w+)", re.M)
 # A declaration of a file of specs: what comes before it, and its name. A theorem has only `pub` before it.
 STATED = re.compile(r"^(?!use |module |--|unfolding )((?:(?:abbrev|unfoldable|pub|record|data) )*)([^\s:]+) (?:.* )?:", re.M)
 LEAST = 2
@@ -33,10 +35,11 @@ def edits():
 def function_at(crate, file, source, place):
     """The path of the function that a place of a source file is in; none for a constant or an import."""
     heads = [head for head in HEAD.finditer(source) if head.start() <= place]
-    if not heads or source.find("\n}\n", heads[-1].start()) < place:
+    if not heads or 0 <= source.find(f"\n{heads[-1][1]}}}\n", heads[-1].start()) < place:
         return None
+    owners = [owner for owner in OWNER.finditer(source) if owner.start() <= place] if heads[-1][1] else []
     inside = [part for part in file.removeprefix("src/").removesuffix(".rt").split("/") if part != "lib"]
-    return "::".join([crate, *inside, heads[-1][1]])
+    return "::".join([crate, *inside, *(owner[2] + (owner[1] or "") for owner in owners[-1:]), heads[-1][2]])
 
 
 def changed(crate, changes):

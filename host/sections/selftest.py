@@ -51,7 +51,7 @@ def comparison_can_fail(driver):
 def refusals_can_fail(driver):
     """A wrong function that is let pass, or is refused for what it calls or for a proof's shape, is found."""
     own = "fn wordlist::word_at: no proof: expected answers in ./proofs/word_at/Answers.antt; `search` did not prove `returns`"
-    calls = "it calls `wordlist::rows::row`, which is not proved\n"
+    calls = "it calls `wordlist::place_of`, which is not proved\n"
     differ = "./proofs/word_at/Answers.antt:9:5: error: `returns`: as printed, the two types first differ\n"
     field, name = "`returns`: record `row` has no field `args`\n", "`returns`: module `Goals` has no `returns-in-At` that can be named\n"
     alone = ["fn wordlist::word_at: not proved\n", f"{own}\n", f"{own}; {calls}"]
@@ -66,7 +66,7 @@ def refusals_can_fail(driver):
         f"{alone[0]}{differ}./proofs/place_of/Answers.antt:2:5: error: {name}",
         f"{alone[0]}{differ}./proofs/Arms.antt:2:5: error: {name}",
     ]
-    change = ("src/lib.rt", "words[place % 16]", "words[0]")
+    change = ("src/lib.rt", "WORDS.get(place)", "WORDS.get(0)")
     held = [lambda log=log: refused.refused_alone("wordlist", "an edit", log, [change]) for log in [*alone, *said]]
     found = [*(not fails(check) for check in held[:len(alone)]), *(fails(check) for check in held[len(alone):]), *theorems_refused()]
     if not all(found):

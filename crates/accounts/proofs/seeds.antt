@@ -1,2 +1,2 @@
 -- What the proofs of `seeds`' functions share.
-pub mod Kept
+pub mod SeedKept

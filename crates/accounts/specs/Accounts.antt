@@ -1,15 +1,15 @@
 -- What becomes of an account: document 01, 'Table, ports and turns' and 'Refusal numbers'; document 02, R-1 and R-5.
-use Rattle.std.specs.Prelude.{ℕ, ◌-◌, Bool, false, not, ◌&&◌, ◌||◌, List, [], ◌∷◌, map, leb, take}
+use Rattle.std.specs.Prelude.{ℕ, ◌-◌, Bool, false, not, ◌&&◌, ◌||◌, List, [], ◌∷◌, map, leb, take, Result, Ok, Err}
 use Rattle.text.specs.Tests.{same}
 use Rattle.text.specs.Kinds.{lower_of}
 use Rattle.refusal.specs.declared.Refusal.{Refusal}
-use Rattle.refusal.specs.declared.Checked.{Checked}
+use Rattle.refusal.specs.Answers.{Checked}
 use Rattle.refusal.specs.Checks.{must, unless, in_order}
 use Rattle.password.specs.Algorithm.{numbered, algorithm_checked, algorithm_in}
 use Rattle.password.specs.PhraseAndSeed.{seed_checked}
 use Rattle.password.specs.Password.{number_of}
-use Rattle.accounts.specs.Rooms.{Room, remembered, room_of, free}
-use Rattle.accounts.specs.declared.Proposed.{Proposed}
+use Rattle.accounts.specs.Rooms.{Room, remembered, room_of}
+use Rattle.accounts.specs.declared.Account.{Account}
 
 -- Enrol and a renewal: "Seeds are kept in lower case"; R-1's algorithm is given by its number.
 abbrev pub with_values : ℕ → List (List ℕ) → ℕ → ℕ → List ℕ → ℕ → Room
@@ -63,13 +63,13 @@ unfoldable pub values_checked : ℕ → ℕ → List ℕ → Room → Checked
 values_checked number count seed present =
     in_order (count_within count ∷ algorithm_checked (numbered number) ∷ seed_checked seed ∷ seed_other seed present ∷ [])
 
--- What is found, and the account where nothing is wrong; a free room otherwise.
-pub record Proposal : Type 0 where
-  pub checked : Checked
-  pub room : Room
+-- The account where nothing is wrong, or what is.
+abbrev pub Proposal : Type 0
+Proposal = Result Room Refusal
 
-abbrev pub proposal : Proposed → List ℕ → Proposal
-proposal p part = record { checked = p.checked; room = room_of p.account part }
+abbrev pub proposal : Result Account Refusal → List ℕ → Proposal
+proposal (Ok account) part = Ok (room_of account part)
+proposal (Err why) part = Err why
 
 abbrev pub proposed : Checked → Room → Proposal
-proposed check room = record { checked = check; room = unless (λ _. free) check room }
+proposed check room = unless Err check (Ok room)

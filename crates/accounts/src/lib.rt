@@ -2,7 +2,6 @@
 #![tactic(auto)]
 
 use password::algorithm::Algorithm;
-use refusal::Checked;
 
 // A seed that is kept: its length, and whether another is the same.
 mod seeds;
@@ -16,6 +15,7 @@ pub mod values;
 pub mod lowered;
 
 // An account and its room: id 0 is a free room, whose algorithm says nothing. The seed is the first `len` bytes, in lower case; zeros after it.
+// The length stands beside the seed, since memory is fixed and an account of any bytes has its answers.
 // Of the seven places that its room has for older seeds, which stand apart from it, the first `older_count` are in use.
 #[derive(Clone, Copy)]
 pub struct Account {
@@ -37,10 +37,3 @@ pub const FREE: Account = Account {
     older_count: 0,
     password: 0,
 };
-
-// What is found of an account's new values, and the account with them; a free room where they are refused.
-#[derive(Clone, Copy)]
-pub struct Proposed {
-    pub checked: Checked,
-    pub account: Account,
-}

@@ -14,10 +14,7 @@ use refusal::Written;
 fn count_below(account: Account) -> u16
     ensures { result ≡ account.count - 1 }
 {
-    if account.count == 0 {
-        return 0;
-    }
-    account.count - 1
+    account.count.saturating_sub(1)
 }
 
 // Writes the account's challenge, with the mark.
@@ -25,19 +22,23 @@ pub fn write_challenge(account: Account, buf: &mut [u8]) -> Written
     ensures answered { result ≡ challenge_written_by true account.algorithm (seed_in account) (account.count - 1) (length buf.old) }
     ensures left { buf.new ≡ leaves result (challenge_text true account.algorithm (seed_in account) (account.count - 1)) buf.old }
 {
-    let seed = account.seed;
-    let n = seed_len(account);
-    let count = count_below(account);
-    let algorithm = account.algorithm;
-    write_by(true, algorithm, &seed[..n], count as u32, buf)
+    let seed = &account.seed[..seed_len(account)];
+    write_by(
+        true,
+        account.algorithm,
+        seed,
+        count_below(account) as u32,
+        buf,
+    )
 }
 
 // The account one count down, with the password that was offered.
-pub fn lower(mut account: Account, password: u64) -> Account
+pub fn lower(account: Account, password: u64) -> Account
     ensures { (part : List ℕ) → room_of result part ≡ lowered (room_of account part) password }
 {
-    let count = count_below(account);
-    account.count = count;
-    account.password = password;
-    account
+    Account {
+        count: count_below(account),
+        password,
+        ..account
+    }
 }

@@ -8,6 +8,7 @@ use Rattle.digests.specs.Lists.{up_to, length-up_to, get_d_up_to, Filling, filli
 use Rattle.digests.specs.Words32.{word}
 use Rattle.digests.specs.Padding.{blocks, length_byte, padded_byte, padded_word}
 use Rattle.block.specs.Inside.{message_bytes, block_bytes}
+use Rattle.block.specs.WordLaws.{first_word, four_bytes}
 
 module _ (order : Order) (m : List ℕ) (i : ℕ) where
   pub byte_message : i < length m → padded_byte order m i ≡ slice_index m i
@@ -72,3 +73,11 @@ module _ (order : Order) (m : List ℕ) (j : ℕ) where
         byte_block (at + 2) (n + 2) (omega arith) (omega arith),
         byte_block (at + 3) (n + 3) (omega arith) (omega arith),
       )
+
+-- Word k of a block is what its own four bytes are.
+pub word_of_block : (order : Order) (m b : List ℕ) (j k : ℕ) → b ≡ block_bytes order m j → k < 16
+    → first_word order (four_bytes b (4 * k)) ≡ padded_word order m (16 * j + k)
+unfolding block_bytes
+word_of_block order m b j k e h =
+    let long : length b ≡ 64 = ap length e ∙ length-up_to 64 (λ i. padded_byte order m (64 * j + i)) in
+    sym (word_message order b k (omega arith)) ∙ ap (λ (l : List ℕ). padded_word order l k) e ∙ word_block order m j k h

@@ -6,15 +6,13 @@ ghost use Rattle.digests.specs.Words32 as spec;
 pub fn add(x: u32, y: u32) -> u32
     ensures { result ≡ spec.add x y }
 {
-    std::num::wrapping_add_u32(x, y)
+    x.wrapping_add(y)
 }
 
-// The bits shifted left around by s. The remainder is s itself: by it the compiler knows a rotation also where s
-// is no literal.
+// The bits shifted left around by s.
 pub fn rotated(x: u32, s: u32) -> u32
     requires { (0 < s) × (s < 32) }
     ensures { result ≡ spec.rotated x s }
 {
-    let t = s % 32;
-    (x << t) | (x >> (32 - t))
+    x.rotate_left(s)
 }

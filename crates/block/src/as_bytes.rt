@@ -9,13 +9,9 @@ use digests::Order;
 fn bytes(order: Order, x: u32) -> [u8; 4]
     ensures { result ≡ bytes4 order x }
 {
-    let b0 = (x % 256) as u8;
-    let b1 = (x / 256 % 256) as u8;
-    let b2 = (x / 65536 % 256) as u8;
-    let b3 = (x / 16777216 % 256) as u8;
     match order {
-        Order::Little => [b0, b1, b2, b3],
-        Order::Big => [b3, b2, b1, b0],
+        Order::Little => x.to_le_bytes(),
+        Order::Big => x.to_be_bytes(),
     }
 }
 

@@ -2,7 +2,8 @@
 ghost use Rattle.std.specs.Prelude.{◌≡◌, ◌≤◌};
 ghost use Rattle.block.specs.ByFour.{four_at};
 
-// One for each of four steps: their words, or what else each has of its own.
+// One for each of four steps: their words, or what else each has of its own. A struct and not an array of four: `four_at` of ByFour,
+// which is among what a reader must believe, speaks of its fields.
 #[derive(Clone, Copy)]
 pub struct Four(pub u32, pub u32, pub u32, pub u32);
 

@@ -2,21 +2,28 @@
 // and 5.2.1.
 #![tactic(auto)]
 
-ghost use Rattle.std.specs.Prelude.{◌≡◌, ◌+◌, ◌*◌, ◌/◌, ◌%◌, ◌<◌, ◌≤◌, [], ◌∷◌, length};
-ghost use Rattle.digests.specs.Padding.{blocks, length_byte, padded_byte, padded_word, block_at};
+ghost use Rattle.std.specs.Prelude.{◌≡◌, ◌+◌, ◌*◌, ◌/◌, ◌%◌, ◌<◌, ◌++◌, length};
+ghost use Rattle.digests.specs.Padding.{blocks, block_at};
 ghost use Rattle.digests.specs.declared.Order.{Order};
 ghost use Rattle.digests.specs.Words32 as spec;
-ghost use Rattle.block.specs.Inside.{message_bytes, block_bytes};
-ghost use Rattle.block.specs.WordLaws.{first_word, four_bytes};
+ghost use Rattle.block.specs.Inside.{length_bytes, block_bytes};
+ghost use Rattle.block.specs.WordLaws.{first_word};
 
 use digests::Order;
+use std::array;
 
 // The sum and the rotation of words.
 pub mod arithmetic;
+// The functions on words that both standards have.
+pub mod bitwise;
 // Sixteen words, four at a time.
 pub mod by_four;
 // The words of a digest as bytes at the front of a buffer.
 pub mod as_bytes;
+// A hash function that takes in a message block by block.
+pub mod hashing;
+// What MD5 and SHA-1 keep of a message.
+mod kept;
 
 // How many blocks the padded message has.
 pub fn count(m: &[u8]) -> usize
@@ -25,69 +32,39 @@ pub fn count(m: &[u8]) -> usize
     (m.len() + 8) / 64 + 1
 }
 
-// Byte k of a length in bits, written as eight bytes. Below 8 the number k ^ 7 is 7 - k: so the two orders share one
-// shift, and the compiler doesn't write the loop over the bytes once for each order.
-fn length_byte(order: Order, bits: usize, k: usize) -> u8
-    requires { k < 8 }
-    ensures { result ≡ length_byte order bits k }
+// A message's length in bits, its low-order 64 bits, as eight bytes. The number is turned round and not its bytes: with `to_be_bytes` beside `to_le_bytes`
+// the compiler chose byte by byte, in 220 bytes more.
+fn length_bytes(order: Order, m: &[u8]) -> [u8; 8]
+    ensures { result ≡ length_bytes order (length m.now) }
 {
-    let flip = match order {
-        Order::Little => 0,
-        Order::Big => 7,
+    let bits = m.len().wrapping_mul(8);
+    let first_low = match order {
+        Order::Little => bits,
+        Order::Big => bits.swap_bytes(),
     };
-    ((bits >> (8 * (k ^ flip))) % 256) as u8
+    first_low.to_le_bytes()
 }
 
-// Byte i of the padded message.
-fn byte(order: Order, m: &[u8], i: usize) -> u8
-    requires { (length m.now ≤ 4096) × (i < 64 * blocks (length m.now)) }
-    ensures { result ≡ padded_byte order m.now i }
+// The 64 bytes of block j: the message's, the byte that ends it, zeros, and in the last block the length.
+fn block_bytes(order: Order, m: &[u8], j: usize) -> [u8; 64]
+    requires { j < blocks (length m.now) }
+    ensures { result ≡ block_bytes order m.now j }
 {
     let n = m.len();
-    if i < n {
-        return m[i];
+    let at = 64 * j;
+    let mut b = [0u8; 64];
+    if at + 64 <= n {
+        b.copy_from_slice(&m[at..at + 64]);
+        return b;
     }
-    if i == n {
-        return 128;
+    if at <= n {
+        b[..n - at].copy_from_slice(&m[at..]);
+        b[n - at] = 128;
     }
-    let end = 64 * count(m) - 8;
-    if i < end {
-        return 0;
+    if j + 1 == count(m) {
+        b[56..].copy_from_slice(&length_bytes(order, m));
     }
-    length_byte(order, 8 * n, i - end)
-}
-
-// The word whose bytes these are, low-order byte first.
-fn low_of(b0: u8, b1: u8, b2: u8, b3: u8) -> u32
-    ensures { spec.bytes4 Order.Little result ≡ b0 ∷ b1 ∷ b2 ∷ b3 ∷ [] }
-{
-    (b0 as u32) + (b1 as u32) * 256 + (b2 as u32) * 65536 + (b3 as u32) * 16777216
-}
-
-// The word whose bytes, low-order byte first, are those at word i.
-fn low_word(m: &[u8], i: usize) -> u32
-    requires { 4 * i + 4 ≤ length m.now }
-    ensures { spec.bytes4 Order.Little result ≡ four_bytes m.now (4 * i) }
-{
-    let at = 4 * i;
-    low_of(m[at], m[at + 1], m[at + 2], m[at + 3])
-}
-
-// The word with x's four bytes in reverse.
-fn reversed(x: u32) -> u32
-    ensures { result ≡ spec.word Order.Little (x / 16777216 % 256) (x / 65536 % 256) (x / 256 % 256) (x % 256) }
-{
-    x / 16777216 % 256 + (x / 65536 % 256) * 256 + (x / 256 % 256) * 65536 + (x % 256) * 16777216
-}
-
-// A word that was read low-order byte first, as it is read in an order.
-fn reread(order: Order, x: u32) -> u32
-    ensures { result ≡ first_word order (spec.bytes4 Order.Little x) }
-{
-    match order {
-        Order::Little => x,
-        Order::Big => reversed(x),
-    }
+    b
 }
 
 // The word that is read in an order from x's four bytes, most significant first.
@@ -96,70 +73,41 @@ pub fn from_high(order: Order, x: u32) -> u32
 {
     match order {
         Order::Big => x,
-        Order::Little => reversed(x),
+        Order::Little => x.swap_bytes(),
     }
 }
 
-// Word i of the padded message, where it lies in the message itself. It is read low-order byte first and then turned
-// round where that is asked for: of four bytes put together the other way round the compiler makes no one read.
-fn message_word(order: Order, m: &[u8], i: usize) -> u32
-    requires { 4 * i + 4 ≤ length m.now }
-    ensures { result ≡ padded_word order m.now i }
+// The word that four bytes are.
+fn word_of(order: Order, b: [u8; 4]) -> u32
+    ensures { result ≡ first_word order b }
 {
-    reread(order, low_word(m, i))
-}
-
-// The 64 bytes of block j, where all are the message's.
-fn message_bytes(m: &[u8], j: usize) -> [u8; 64]
-    requires { 64 * j + 64 ≤ length m.now }
-    ensures { result ≡ message_bytes m.now j }
-{
-    let mut b = [0u8; 64];
-    let mut i = 0;
-    while i < 64 {
-        b[i] = m[64 * j + i];
-        i += 1;
+    match order {
+        Order::Little => u32::from_le_bytes(b),
+        Order::Big => u32::from_be_bytes(b),
     }
-    b
-}
-
-// The 64 bytes of block j, where some are padding.
-fn padded_bytes(order: Order, m: &[u8], j: usize) -> [u8; 64]
-    requires { (length m.now ≤ 4096) × (j < blocks (length m.now)) }
-    ensures { result ≡ block_bytes order m.now j }
-{
-    let mut b = [0u8; 64];
-    let mut i = 0;
-    while i < 64 {
-        b[i] = byte(order, m, 64 * j + i);
-        i += 1;
-    }
-    b
-}
-
-// The 64 bytes of block j.
-fn block_bytes(order: Order, m: &[u8], j: usize) -> [u8; 64]
-    requires { (length m.now ≤ 4096) × (j < blocks (length m.now)) }
-    ensures { result ≡ block_bytes order m.now j }
-{
-    if 64 * j + 64 <= m.len() {
-        return message_bytes(m, j);
-    }
-    padded_bytes(order, m, j)
 }
 
 // Block j of the padded message, its sixteen words. Its bytes are copied first, and the words read from them as from a
-// message: so `byte` and the reading of words each stand once in the compiled code.
+// message: so the padding and the reading of words each stand once in the compiled code. It stays a function of its own: in its
+// two callers, one for each order, it took 800 bytes more, and MD5 of 4,096 bytes 5% longer.
+#[inline(never)]
 pub fn block(order: Order, m: &[u8], j: usize) -> [u32; 16]
-    requires { (length m.now ≤ 4096) × (j < blocks (length m.now)) }
+    requires { j < blocks (length m.now) }
     ensures { result ≡ block_at order m.now j }
 {
     let b = block_bytes(order, m, j);
-    let mut w = [0u32; 16];
-    let mut k = 0;
-    while k < 16 {
-        w[k] = message_word(order, &b, k);
-        k += 1;
-    }
-    w
+    array::from_fn(|k| word_of(order, [b[4 * k], b[4 * k + 1], b[4 * k + 2], b[4 * k + 3]]))
+}
+
+// The one block of a message of eight bytes, given as two words. It has the bit after them, and ends with the length, 64 bits.
+fn block_of_eight(order: Order, first: u32, second: u32) -> [u32; 16]
+    ensures { result ≡ block_at order (spec.bytes4 order first ++ spec.bytes4 order second) 0 }
+{
+    let (bit, low, high) = match order {
+        Order::Little => (128, 64, 0),
+        Order::Big => (0x80000000, 0, 64),
+    };
+    [
+        first, second, bit, 0, 0, 0, 0, 0, 0, 0, 0, 0, 0, 0, low, high,
+    ]
 }

@@ -1,11 +1,10 @@
 -- The card writer's answers by what the checks find, and the card's text from the walked passwords.
+use Rattle.std.specs.Prelude.{Ok, Err}
 use Prim.Native.Nat.{ℕ, ◌+◌, ◌-◌, ◌≤◌}
 use mathlib.Core.Path.{◌≡◌, refl, ◌∙◌, ap, ap₂}
 use mathlib.Core.List.{List}
 use native.Mathlib.Omega.{arith}
 use Rattle.refusal.specs.declared.Refusal.{Refusal}
-use Rattle.refusal.specs.declared.Checked.{Checked}
-use Rattle.refusal.specs.declared.Written.{Written}
 use Rattle.text.specs.Put.{written_of}
 use Rattle.password.specs.declared.algorithm.Algorithm.{Algorithm}
 use Rattle.password.specs.Password.{password}
@@ -28,11 +27,11 @@ walked algorithm phrase seed ps n k low high w =
     w phrase seed (n - (k - 1)) refl (n - count) (omega arith) ∙ ap (password algorithm phrase seed) same)
 
 module _ (phrase challenge : List ℕ) (k : ℕ) where
-  pub refused : (room : ℕ) (why : Refusal) → card_checked phrase challenge k ≡ Checked.Refused why → Written.Refused why ≡ card_written phrase challenge k room
+  pub refused : (room : ℕ) (why : Refusal) → card_checked phrase challenge k ≡ Err why → Err why ≡ card_written phrase challenge k room
   unfolding card_written
   refused room why e = rw e
 
-  module _ (e : card_checked phrase challenge k ≡ Checked.Good) where
+  module _ (e : card_checked phrase challenge k ≡ Ok tt) where
     pub written : (room : ℕ) → card_written phrase challenge k room ≡ written_of room (card_of phrase challenge k)
     unfolding card_written
     written room = rw e

@@ -1,17 +1,18 @@
 -- Laws of a card's checks: what holds of a card that is not refused.
-use Rattle.std.specs.Prelude.{ℕ, ◌≤◌, Bool, true, ◌&&◌, List, leb}
+use Rattle.std.specs.Prelude.{ℕ, ◌≤◌, Bool, true, ◌&&◌, List, leb, Ok, Err, Result}
+use Rattle.std.specs.Result.{result_unwrap_or}
 use Rattle.std.proofs.Math.Path.{◌≡◌, refl}
-use Rattle.std.proofs.Common.{arith, leb-true}
+use Rattle.std.specs.Result.{result_unwrap_or}
+use Rattle.std.proofs.Common.{arith, leb-true, ap, sym}
 use Rattle.refusal.specs.declared.Refusal.{Refusal}
-use Rattle.refusal.specs.declared.Checked.{Checked}
+use Rattle.refusal.specs.Answers.{Checked}
 use Rattle.refusal.specs.Checks.{unless}
 use Rattle.refusal.specs.Laws.{must_good, both_good}
 use Rattle.text.specs.Tests.{both}
 use Rattle.password.specs.declared.algorithm.Algorithm.{Algorithm}
 use Rattle.password.specs.PhraseAndSeed.{phrase_checked}
 use Rattle.challenge.specs.declared.reading.Challenge.{Challenge}
-use Rattle.challenge.specs.Challenges.{challenge_of, algorithm_of}
-use Rattle.cards.specs.declared.card_checks.Asked.{Asked}
+use Rattle.challenge.specs.Challenges.{challenge_of, algorithm_of, a_challenge}
 use Rattle.cards.specs.CardChecks.{challenge_checked, count_of, lines_checked, card_checked}
 use Rattle.cards.specs.Inside.{asked_of}
 
@@ -23,14 +24,14 @@ lines_good k n e =
     (leb-true 1 k inner.0, leb-true k 99 inner.1, leb-true k n outer.1)
 
 -- a challenge with nothing wrong is read
-pub is_read : (c : Challenge) → challenge_checked c ≡ Checked.Good → (algorithm : Algorithm) × (n s l u : ℕ) × (x : Bool)
-    × (c ≡ Challenge.Read algorithm n s l u x)
-is_read (Challenge.Read algorithm n s l u x) e = (algorithm, n, s, l, u, x, refl)
-is_read (Challenge.Refused why) e = let z : ◌≡◌ {A = ℕ} 0 1 = cc in absurd (omega arith)
+pub is_read : (c : Result Challenge Refusal) → challenge_checked c ≡ Ok tt → (algorithm : Algorithm) × (n s l u : ℕ) × (x : Bool)
+    × (c ≡ a_challenge algorithm n s l u x)
+is_read (Ok c) e = (c.algorithm, c.count, c.start, c.len, c.used, c.ext, refl)
+is_read (Err why) e = let z : ◌≡◌ {A = ℕ} 0 1 = cc in absurd (omega arith)
 
-module _ (phrase challenge : List ℕ) (k : ℕ) (e : card_checked phrase challenge k ≡ Checked.Good) where
-  pub checks_good : (phrase_checked phrase ≡ Checked.Good) × (challenge_checked (challenge_of challenge) ≡ Checked.Good)
-      × (lines_checked k (count_of (challenge_of challenge)) ≡ Checked.Good)
+module _ (phrase challenge : List ℕ) (k : ℕ) (e : card_checked phrase challenge k ≡ Ok tt) where
+  pub checks_good : (phrase_checked phrase ≡ Ok tt) × (challenge_checked (challenge_of challenge) ≡ Ok tt)
+      × (lines_checked k (count_of (challenge_of challenge)) ≡ Ok tt)
   unfolding card_checked
   checks_good =
       let a = both_good (phrase_checked phrase) _ e in
@@ -46,23 +47,25 @@ module _ (phrase challenge : List ℕ) (k : ℕ) (e : card_checked phrase challe
 
 module _ (phrase challenge : List ℕ) (k : ℕ) where
   -- the answer, by what the checks find
-  abbrev from : Checked → Asked
-  from c = unless Asked.Refused c (Asked.Card (algorithm_of (challenge_of challenge)) (count_of (challenge_of challenge)))
+  abbrev from : Checked → Result (Algorithm × ℕ) Refusal
+  from c = unless Err c (Ok (algorithm_of (challenge_of challenge), count_of (challenge_of challenge)))
 
-  pub asked_card : (algorithm : Algorithm) (n : ℕ) → asked_of phrase challenge k ≡ Asked.Card algorithm n
-      → (card_checked phrase challenge k ≡ Checked.Good) × (algorithm ≡ algorithm_of (challenge_of challenge)) × (n ≡ count_of (challenge_of challenge))
+  pub asked_card : (algorithm : Algorithm) (n : ℕ) → asked_of phrase challenge k ≡ Ok (algorithm, n)
+      → (card_checked phrase challenge k ≡ Ok tt) × (algorithm ≡ algorithm_of (challenge_of challenge)) × (n ≡ count_of (challenge_of challenge))
   unfolding asked_of
   asked_card algorithm n e = by (card_checked phrase challenge k) refl e
     where
-      by : (c : Checked) → card_checked phrase challenge k ≡ c → from c ≡ Asked.Card algorithm n
-          → (card_checked phrase challenge k ≡ Checked.Good) × (algorithm ≡ algorithm_of (challenge_of challenge)) × (n ≡ count_of (challenge_of challenge))
-      by Checked.Good f g = (f, cc, cc)
-      by (Checked.Refused why) f g = let z : ◌≡◌ {A = ℕ} 0 1 = cc in absurd (omega arith)
+      by : (c : Checked) → card_checked phrase challenge k ≡ c → from c ≡ Ok (algorithm, n)
+          → (card_checked phrase challenge k ≡ Ok tt) × (algorithm ≡ algorithm_of (challenge_of challenge)) × (n ≡ count_of (challenge_of challenge))
+      by (Ok _) f g =
+          let said = ap (λ (r : Result (Algorithm × ℕ) Refusal). result_unwrap_or r (algorithm, n)) (sym g) in
+          (f, ap (λ (p : Algorithm × ℕ). p.0) said, ap (λ (p : Algorithm × ℕ). p.1) said)
+      by (Err why) f g = let z : ◌≡◌ {A = ℕ} 0 1 = cc in absurd (omega arith)
 
-  pub asked_refused : (why : Refusal) → asked_of phrase challenge k ≡ Asked.Refused why → card_checked phrase challenge k ≡ Checked.Refused why
+  pub asked_refused : (why : Refusal) → asked_of phrase challenge k ≡ Err why → card_checked phrase challenge k ≡ Err why
   unfolding asked_of
   asked_refused why e = by (card_checked phrase challenge k) refl e
     where
-      by : (c : Checked) → card_checked phrase challenge k ≡ c → from c ≡ Asked.Refused why → card_checked phrase challenge k ≡ Checked.Refused why
-      by Checked.Good f g = let z : ◌≡◌ {A = ℕ} 0 1 = cc in absurd (omega arith)
-      by (Checked.Refused other) f g = cc
+      by : (c : Checked) → card_checked phrase challenge k ≡ c → from c ≡ Err why → card_checked phrase challenge k ≡ Err why
+      by (Ok _) f g = let z : ◌≡◌ {A = ℕ} 0 1 = cc in absurd (omega arith)
+      by (Err other) f g = cc

@@ -1,6 +1,6 @@
 -- 01, The card.
-use Rattle.std.specs.Prelude.{ℕ, List}
-use Rattle.refusal.specs.declared.Written.{Written}
+use Rattle.std.specs.Prelude.{ℕ, List, Err}
+use Rattle.refusal.specs.Answers.{Written}
 use Rattle.refusal.specs.Checks.{unless}
 use Rattle.text.specs.Put.{written_of}
 use Rattle.password.specs.Password.{password}
@@ -16,4 +16,4 @@ card_of phrase challenge k =
 -- the checks, and then 40
 unfoldable pub card_written : List ℕ → List ℕ → ℕ → ℕ → Written
 card_written phrase challenge k room =
-    unless Written.Refused (card_checked phrase challenge k) (written_of room (card_of phrase challenge k))
+    unless Err (card_checked phrase challenge k) (written_of room (card_of phrase challenge k))

@@ -1,8 +1,8 @@
 -- 01, The card: what the program `card` prints for its input.
-use Rattle.std.specs.Prelude.{ℕ, ◌+◌, cond, ◌&&◌, List, [], ◌∷◌, ◌++◌, leb, ltb, length, take, drop}
+use Rattle.std.specs.Prelude.{ℕ, ◌+◌, cond, ◌&&◌, List, [], ◌∷◌, ◌++◌, leb, ltb, length, take, drop, Ok, Err}
 use Rattle.text.specs.Scan.{index_of}
 use Rattle.refusal.specs.declared.Refusal.{Refusal}
-use Rattle.refusal.specs.declared.Checked.{Checked}
+use Rattle.refusal.specs.Answers.{Checked}
 use Rattle.refusal.specs.Numbers.{listing_of}
 use Rattle.text.specs.Digits.{number_of}
 use Rattle.text.specs.Quoted.{codes}
@@ -30,8 +30,8 @@ unfoldable pub refused_text : Refusal → List ℕ
 refused_text why = codes "refused " ++ decimal_of (listing_of why).0 ++ 10 ∷ []
 
 abbrev pub printed : Checked → List ℕ → List ℕ
-printed Checked.Good card = card
-printed (Checked.Refused why) card = refused_text why
+printed (Ok _) card = card
+printed (Err why) card = refused_text why
 
 -- what is printed for a pass-phrase, a challenge and k
 unfoldable pub printed_card : List ℕ → List ℕ → ℕ → List ℕ

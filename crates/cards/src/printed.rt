@@ -6,7 +6,7 @@ ghost use Rattle.cards.specs.Printed.{first_line, kept_line, past_line, lines_as
 
 use crate::write_card;
 use refusal::{Refusal, Written, listing_of};
-use text::counts::{Counted, put_count_and, read_count};
+use text::counts::{put_count_and, read_count};
 use text::put::copy;
 use text::scan::find;
 
@@ -25,55 +25,21 @@ fn first_line(s: &[u8]) -> &[u8]
     &s[..n]
 }
 
-// The first line of a text with its newline.
-fn kept_line(s: &[u8]) -> &[u8]
-    ensures { result.now ≡ kept_line s.now }
+// The first line of a text with its newline, and what follows.
+fn split_line(s: &[u8]) -> (&[u8], &[u8])
+    ensures { (result.0.now ≡ kept_line s.now) × (result.1.now ≡ past_line s.now) }
 {
-    let n = line_end(s);
-    if n < s.len() {
-        let end = n + 1;
-        return &s[..end];
-    }
-    s
+    s.split_at((line_end(s) + 1).min(s.len()))
 }
 
-// What follows the first line of a text.
-fn past_line(s: &[u8]) -> &[u8]
-    ensures { result.now ≡ past_line s.now }
-{
-    let n = line_end(s);
-    if n < s.len() {
-        let start = n + 1;
-        return &s[start..];
-    }
-    &s[n..]
-}
-
-// The lines that the third line asks for; 0 for a line that is no such number.
+// The lines that the third line asks for; 0 for a line that is no such number, as the definition has it: `write_card` refuses 0 lines by the same 70.
 fn lines_asked(t: &[u8]) -> u32
     ensures { result ≡ lines_asked t.now }
 {
     if 2 < t.len() {
         return 0;
     }
-    let Counted::Is(k) = read_count(t) else {
-        return 0;
-    };
-    k
-}
-
-// The lines that an input asks for, by its third line.
-fn lines_of(input: &[u8]) -> u32
-    ensures { result ≡ lines_asked (first_line (past_line (past_line input.now))) }
-{
-    lines_asked(first_line(past_line(past_line(input))))
-}
-
-// The challenge of an input, its second line with the newline.
-fn challenge_of(input: &[u8]) -> &[u8]
-    ensures { result.now ≡ kept_line (past_line input.now) }
-{
-    kept_line(past_line(input))
+    read_count(t).unwrap_or(0)
 }
 
 // A refusal as it is printed.
@@ -91,8 +57,8 @@ fn put_card(phrase: &[u8], challenge: &[u8], lines: u32, buf: &mut [u8; 5148]) -
     ensures { Put (printed_card phrase.now challenge.now lines) buf.old buf.new result }
 {
     match write_card(phrase, challenge, lines, buf) {
-        Written::Wrote(n) => n,
-        Written::Refused(why) => put_refused(buf, why),
+        Ok(n) => n,
+        Err(why) => put_refused(buf, why),
     }
 }
 
@@ -103,5 +69,12 @@ pub fn answer(input: &[u8], buf: &mut [u8; 5148]) -> usize
     if 256 < input.len() {
         return put_refused(buf, Refusal::InputLong);
     }
-    put_card(first_line(input), challenge_of(input), lines_of(input), buf)
+    let (_, past_phrase) = split_line(input);
+    let (challenge, past_challenge) = split_line(past_phrase);
+    put_card(
+        first_line(input),
+        challenge,
+        lines_asked(first_line(past_challenge)),
+        buf,
+    )
 }

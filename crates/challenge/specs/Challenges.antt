@@ -1,9 +1,8 @@
 -- 01, Challenges, and 02, R-1 and R-6: steps 1 to 5, "from left to right; the first fault is the answer", and what the writer writes.
-use Rattle.std.specs.Prelude.{ℕ, ◌+◌, Bool, true, false, cond, ◌&&◌, ◌||◌, List, [], ◌∷◌, ◌++◌, map, ltb, eqb, length, take, drop}
+use Rattle.std.specs.Prelude.{ℕ, ◌+◌, Bool, true, false, cond, ◌&&◌, ◌||◌, List, [], ◌∷◌, ◌++◌, map, ltb, eqb, length, take, drop, Err, Result, Ok}
 use Rattle.refusal.specs.declared.Refusal.{Refusal}
 use Rattle.refusal.specs.declared.Listing.{Listing}
-use Rattle.refusal.specs.declared.Checked.{Checked}
-use Rattle.refusal.specs.declared.Written.{Written}
+use Rattle.refusal.specs.Answers.{Checked, Written}
 use Rattle.refusal.specs.Numbers.{listing_of, unrefused}
 use Rattle.refusal.specs.Checks.{unless, must}
 use Rattle.text.specs.Kinds.{in_token, is_blank, lower_of}
@@ -80,40 +79,45 @@ has_mark text start = is_mark (token_at text (mark_at text start)) && terminated
 unfoldable pub used_by : List ℕ → ℕ → ℕ
 used_by text start = cond (has_mark text start) (end_of text (mark_at text start) + 1) (end_of text start + 1)
 
+-- A challenge that was read: its algorithm, its count, where its seed starts and how long it is, the bytes used, and whether it has the mark.
+abbrev pub a_challenge : Algorithm → ℕ → ℕ → ℕ → ℕ → Bool → Result Challenge Refusal
+a_challenge algorithm count start len used ext =
+    Ok (record { algorithm = algorithm; count = count; start = start; len = len; used = used; ext = ext })
+
 -- R-1's algorithm, the count, where the seed stands, how long it is, the bytes used, and R-6's mark
-abbrev pub found : List ℕ → Challenge
+abbrev pub found : List ℕ → Result Challenge Refusal
 found text =
-    Challenge.Read (algorithm_in (named (token_at text 4))) (number_of 10 (token_at text (count_at text))) (seed_at text)
+    a_challenge (algorithm_in (named (token_at text 4))) (number_of 10 (token_at text (count_at text))) (seed_at text)
     (length (token_at text (seed_at text))) (used_by text (seed_at text)) (has_mark text (seed_at text))
 
-unfoldable pub challenge_of : List ℕ → Challenge
+unfoldable pub challenge_of : List ℕ → Result Challenge Refusal
 challenge_of text =
-    unless Challenge.Refused (step1 text)
-    (unless Challenge.Refused (step2 text)
-    (unless Challenge.Refused (step3 text)
-    (unless Challenge.Refused (step4 text)
-    (unless Challenge.Refused (step5 text)
+    unless Err (step1 text)
+    (unless Err (step2 text)
+    (unless Err (step3 text)
+    (unless Err (step4 text)
+    (unless Err (step5 text)
     (found text)))))
 
 -- the number and values of a challenge that was read: the algorithm's number, count, start, length, bytes used, and 1 for the mark
-abbrev pub challenge_numbers : Challenge → Listing × ℕ × ℕ × ℕ × ℕ × ℕ × ℕ
-challenge_numbers (Challenge.Read algorithm count start len used ext) = (unrefused, algorithm_number algorithm, count, start, len, used, cond ext 1 0)
-challenge_numbers (Challenge.Refused why) = (listing_of why, 0, 0, 0, 0, 0, 0)
+abbrev pub challenge_numbers : Result Challenge Refusal → Listing × ℕ × ℕ × ℕ × ℕ × ℕ × ℕ
+challenge_numbers (Ok c) = (unrefused, algorithm_number c.algorithm, c.count, c.start, c.len, c.used, cond c.ext 1 0)
+challenge_numbers (Err why) = (listing_of why, 0, 0, 0, 0, 0, 0)
 
 -- the algorithm that a challenge asks for; after a refusal nobody asks
-abbrev pub algorithm_of : Challenge → Algorithm
-algorithm_of (Challenge.Read algorithm count start len used ext) = algorithm
-algorithm_of (Challenge.Refused why) = Algorithm.Md5
+abbrev pub algorithm_of : Result Challenge Refusal → Algorithm
+algorithm_of (Ok c) = c.algorithm
+algorithm_of (Err why) = Algorithm.Md5
 
 -- "the seed is handed back as the part of the caller's bytes where it stands"; "After a refusal the part
 -- handed back is the empty one at the start": where the part starts, and how long it is
-abbrev pub start_of : Challenge → ℕ
-start_of (Challenge.Read algorithm count start len used ext) = start
-start_of (Challenge.Refused why) = 0
+abbrev pub start_of : Result Challenge Refusal → ℕ
+start_of (Ok c) = c.start
+start_of (Err why) = 0
 
-abbrev pub length_of : Challenge → ℕ
-length_of (Challenge.Read algorithm count start len used ext) = len
-length_of (Challenge.Refused why) = 0
+abbrev pub length_of : Result Challenge Refusal → ℕ
+length_of (Ok c) = c.len
+length_of (Err why) = 0
 
 abbrev pub seed_of : List ℕ → List ℕ
 seed_of text = take (length_of (challenge_of text)) (drop (start_of (challenge_of text)) text)
@@ -131,13 +135,13 @@ challenge_text ext algorithm seed count =
 -- "the challenge writer 23, 24, 13, 40"
 unfoldable pub challenge_written_by : Bool → Algorithm → List ℕ → ℕ → ℕ → Written
 challenge_written_by ext algorithm seed count room =
-    unless Written.Refused (seed_checked seed)
-    (cond (ltb 9999 count) (Written.Refused Refusal.CountHigh) (written_of room (challenge_text ext algorithm seed count)))
+    unless Err (seed_checked seed)
+    (cond (ltb 9999 count) (Err Refusal.CountHigh) (written_of room (challenge_text ext algorithm seed count)))
 
 -- R-1: "an unknown algorithm gives 21 .. at the .. challenge writer first". The algorithm is given by its number. This writer writes no mark.
 unfoldable pub challenge_written : ℕ → List ℕ → ℕ → ℕ → Written
 challenge_written number seed count room =
-    unless Written.Refused (algorithm_checked (numbered number))
+    unless Err (algorithm_checked (numbered number))
     (challenge_written_by false (algorithm_in (numbered number)) seed count room)
 
 -- and the text that it writes

@@ -1,5 +1,5 @@
 -- 01, Checked examples: those on challenges and seeds, R-1's names and R-6's mark, as one theorem.
-use Rattle.std.specs.Prelude.{◌≡◌, refl, true, false, List, [], ◌∷◌, ◌++◌, map, ℕ}
+use Rattle.std.specs.Prelude.{◌≡◌, refl, true, false, List, [], ◌∷◌, ◌++◌, map, ℕ, Result, Err}
 use Rattle.refusal.specs.declared.Refusal.{Refusal}
 use Rattle.text.specs.Scan.{run_of}
 use Rattle.text.specs.Digits.{number_after}
@@ -10,10 +10,10 @@ use Rattle.password.specs.Algorithm.{algorithm_name}
 use Rattle.password.specs.PhraseAndSeed.{plain}
 use Rattle.challenge.specs.declared.reading.Challenge.{Challenge}
 use Rattle.text.specs.Counts.{is_count}
-use Rattle.challenge.specs.Challenges.{opening, token_at, next_at, count_at, seed_at, is_mark, has_mark, used_by, challenge_of, seed_of}
+use Rattle.challenge.specs.Challenges.{opening, token_at, next_at, count_at, seed_at, is_mark, has_mark, used_by, challenge_of, seed_of, a_challenge}
 
 -- what a challenge says, and its seed
-unfoldable pub said : List ℕ → Challenge × List ℕ
+unfoldable pub said : List ℕ → Result Challenge Refusal × List ℕ
 said text = (challenge_of text, seed_of text)
 
 abbrev newline : List ℕ
@@ -42,26 +42,26 @@ pub examples : map said (
     ∷ (codes "otp-md5 487 dog2 a ext" ++ newline)
     ∷ (codes "otp-md5 487 dog2" ++ newline ++ codes "ext" ++ newline)
     ∷ [])
-    ≡ (Challenge.Read Algorithm.Md5 487 12 4 17 false, codes "dog2")
-    ∷ (Challenge.Refused Refusal.SeedUnended, [])
-    ∷ (Challenge.Refused Refusal.CountUnread, [])
-    ∷ (Challenge.Read Algorithm.Md5 1 10 16 27 false, codes "SixteenLettersAA")
-    ∷ (Challenge.Refused Refusal.SeedLength, [])
-    ∷ (Challenge.Refused Refusal.SeedLength, [])
-    ∷ (Challenge.Refused Refusal.SeedCharacter, [])
-    ∷ (Challenge.Read Algorithm.Md5 99 11 1 13 false, codes "A")
-    ∷ (Challenge.Read Algorithm.Sha1 487 13 4 18 false, codes "dog2")
-    ∷ (Challenge.Refused Refusal.AlgorithmUnknown, [])
-    ∷ (Challenge.Refused Refusal.AlgorithmUnknown, [])
-    ∷ (Challenge.Refused Refusal.AlgorithmUnknown, [])
-    ∷ (Challenge.Refused Refusal.AlgorithmUnknown, [])
-    ∷ (Challenge.Read Algorithm.Md5 487 12 4 21 true, codes "dog2")
-    ∷ (Challenge.Read Algorithm.Md5 487 12 4 28 true, codes "dog2")
-    ∷ (Challenge.Read Algorithm.Md5 487 12 4 17 false, codes "dog2")
-    ∷ (Challenge.Read Algorithm.Md5 487 12 4 17 false, codes "dog2")
-    ∷ (Challenge.Read Algorithm.Md5 487 12 4 17 false, codes "dog2")
-    ∷ (Challenge.Read Algorithm.Md5 487 12 4 17 false, codes "dog2")
-    ∷ (Challenge.Read Algorithm.Md5 487 12 4 17 false, codes "dog2")
+    ≡ (a_challenge Algorithm.Md5 487 12 4 17 false, codes "dog2")
+    ∷ (Err Refusal.SeedUnended, [])
+    ∷ (Err Refusal.CountUnread, [])
+    ∷ (a_challenge Algorithm.Md5 1 10 16 27 false, codes "SixteenLettersAA")
+    ∷ (Err Refusal.SeedLength, [])
+    ∷ (Err Refusal.SeedLength, [])
+    ∷ (Err Refusal.SeedCharacter, [])
+    ∷ (a_challenge Algorithm.Md5 99 11 1 13 false, codes "A")
+    ∷ (a_challenge Algorithm.Sha1 487 13 4 18 false, codes "dog2")
+    ∷ (Err Refusal.AlgorithmUnknown, [])
+    ∷ (Err Refusal.AlgorithmUnknown, [])
+    ∷ (Err Refusal.AlgorithmUnknown, [])
+    ∷ (Err Refusal.AlgorithmUnknown, [])
+    ∷ (a_challenge Algorithm.Md5 487 12 4 21 true, codes "dog2")
+    ∷ (a_challenge Algorithm.Md5 487 12 4 28 true, codes "dog2")
+    ∷ (a_challenge Algorithm.Md5 487 12 4 17 false, codes "dog2")
+    ∷ (a_challenge Algorithm.Md5 487 12 4 17 false, codes "dog2")
+    ∷ (a_challenge Algorithm.Md5 487 12 4 17 false, codes "dog2")
+    ∷ (a_challenge Algorithm.Md5 487 12 4 17 false, codes "dog2")
+    ∷ (a_challenge Algorithm.Md5 487 12 4 17 false, codes "dog2")
     ∷ []
 unfolding said codes run_of number_after every plain is_count opening algorithm_name same token_at next_at count_at seed_at is_mark has_mark used_by
     challenge_of

@@ -1,51 +1,28 @@
 -- Laws of tokens and their places, of what a challenge that is read says, and of the steps' answers.
-use Rattle.std.specs.Prelude.{ℕ, ◌+◌, ◌-◌, ◌≤◌, ◌<◌, Bool, true, false, cond, ◌||◌, List, [], ◌∷◌, length, drop}
-use Rattle.std.proofs.Math.Path.{◌≡◌, ap, ap₂}
-use Rattle.std.proofs.Common.{sym, ◌∙◌, true≢false, arith, lt-ltb, length-append, length-drop, length-take}
+use Rattle.std.specs.Prelude.{ℕ, ◌+◌, ◌-◌, ◌≤◌, ◌<◌, Bool, true, false, cond, ◌||◌, List, [], ◌∷◌, length, drop, Some, None, Ok, Err, Result}
+use Rattle.std.proofs.Math.Path.{◌≡◌, refl, ap, ap₂}
+use Rattle.std.proofs.Common.{sym, ◌∙◌, true≢false, arith, length-append, length-drop, length-take}
 use Rattle.std.proofs.Math.Bool.{or-false}
 use Rattle.std.proofs.Math.ListN.{take}
 use Rattle.std.proofs.lemmas.List.{length-map}
 use Rattle.refusal.specs.declared.Refusal.{Refusal}
-use Rattle.refusal.specs.declared.Checked.{Checked}
 use Rattle.refusal.specs.Laws.{must_good, not_refused}
 use Rattle.text.specs.Quoted.{codes}
 use Rattle.text.specs.Kinds.{in_token, is_blank}
 use Rattle.text.specs.Digits.{number_of}
 use Rattle.text.specs.Scan.{run_of}
 use Rattle.text.specs.ScanLaws.{run_ends_within, stretch-length}
-use Rattle.text.specs.Tests.{either, cases, both, same, same_equal, same_lengths}
+use Rattle.text.specs.Tests.{both, cases, same, same_equal, same_lengths}
 use Rattle.password.specs.declared.algorithm.Algorithm.{Algorithm}
-use Rattle.password.specs.declared.algorithm.Named.{Named}
 use Rattle.password.specs.Algorithm.{algorithm_name, named}
 use Rattle.password.specs.PhraseAndSeed.{seed_checked}
 use Rattle.text.specs.Counts.{is_count, width_of}
 use Rattle.text.specs.CountLaws.{count_low, length_decimal}
 use Rattle.challenge.specs.declared.reading.Challenge.{Challenge}
-use Rattle.challenge.specs.Challenges.{
-  opening,
-  ending,
-  challenge_text,
-  token_at,
-  end_of,
-  next_at,
-  count_at,
-  seed_at,
-  terminated,
-  step1,
-  step2,
-  step3,
-  step4,
-  step5,
-  found,
-  challenge_of,
-  is_mark,
-  mark_at,
-  has_mark,
-  used_by,
-  start_of,
-  length_of,
-  seed_of,
-}
+use Rattle.challenge.specs.Challenges.{opening, ending, challenge_text, token_at, end_of, next_at, count_at, seed_at, terminated, step1, step2, step3}
+use Rattle.challenge.specs.Challenges.{step4, step5, found, challenge_of, is_mark, mark_at}
+use Rattle.challenge.specs.Challenges.{has_mark, used_by, challenge_numbers, start_of, length_of, seed_of, a_challenge}
+use Rattle.std.specs.Option.{unwrap_or, is_some}
 use Rattle.challenge.specs.Inside.{mark_end, read_by, read_from, seed_from}
 
 -- ---- tokens and their places
@@ -70,12 +47,12 @@ opened_long text e = omega (arith, length-take 4 text, ap length (same_equal (ta
 
 module _ (algorithm : Algorithm) (n s l u : ℕ) (x : Bool) where
   -- a challenge is read only if each step finds nothing wrong
-  pub steps_good : (text : List ℕ) → challenge_of text ≡ Challenge.Read algorithm n s l u x
-      → (step1 text ≡ Checked.Good) × (step2 text ≡ Checked.Good) × (step3 text ≡ Checked.Good) × (step4 text ≡ Checked.Good) × (step5 text ≡ Checked.Good)
-      × (found text ≡ Challenge.Read algorithm n s l u x)
+  pub steps_good : (text : List ℕ) → challenge_of text ≡ a_challenge algorithm n s l u x
+      → (step1 text ≡ Ok tt) × (step2 text ≡ Ok tt) × (step3 text ≡ Ok tt) × (step4 text ≡ Ok tt) × (step5 text ≡ Ok tt)
+      × (found text ≡ a_challenge algorithm n s l u x)
   unfolding challenge_of
   steps_good text e =
-      let past = not_refused Challenge.Refused (Challenge.Read algorithm n s l u x) (λ why f. let z : ◌≡◌ {A = ℕ} 0 1 = cc in omega arith) in
+      let past = not_refused Err (a_challenge algorithm n s l u x) (λ why f. let z : ◌≡◌ {A = ℕ} 0 1 = cc in omega arith) in
       let a = past (step1 text) _ e in
       let b = past (step2 text) _ a.1 in
       let c = past (step3 text) _ b.1 in
@@ -83,16 +60,16 @@ module _ (algorithm : Algorithm) (n s l u : ℕ) (x : Bool) where
       let f = past (step5 text) _ d.1 in
       (a.0, b.0, c.0, d.0, f.0, f.1)
 
-  module _ (text : List ℕ) (e : challenge_of text ≡ Challenge.Read algorithm n s l u x) where
-    good : (step1 text ≡ Checked.Good) × (step2 text ≡ Checked.Good) × (step3 text ≡ Checked.Good) × (step4 text ≡ Checked.Good) × (step5 text ≡ Checked.Good)
-        × (found text ≡ Challenge.Read algorithm n s l u x)
+  module _ (text : List ℕ) (e : challenge_of text ≡ a_challenge algorithm n s l u x) where
+    good : (step1 text ≡ Ok tt) × (step2 text ≡ Ok tt) × (step3 text ≡ Ok tt) × (step4 text ≡ Ok tt) × (step5 text ≡ Ok tt)
+        × (found text ≡ a_challenge algorithm n s l u x)
     good = steps_good text e
 
     seed_starts : seed_at text ≡ s
-    seed_starts = let f = good.5 in cc
+    seed_starts = ap start_of good.5
 
     seed_length : length (token_at text (seed_at text)) ≡ l
-    seed_length = let f = good.5 in cc
+    seed_length = ap length_of good.5
 
     seed_within : seed_at text ≤ length text
     unfolding count_at seed_at
@@ -107,18 +84,17 @@ module _ (algorithm : Algorithm) (n s l u : ℕ) (x : Bool) where
     pub seed_part_lem : seed_of text ≡ token_at text (seed_at text)
     unfolding token_at
     seed_part_lem =
-        ap (λ (r : Challenge). take (length_of r) (drop (start_of r) text)) e
+        ap (λ (r : Result Challenge Refusal). take (length_of r) (drop (start_of r) text)) e
         ∙ ap₂ (λ (k at : ℕ). take k (drop at text)) (sym seed_length ∙ length_token text (seed_at text)) (sym seed_starts)
 
     -- and is good
-    pub read_seed_good : seed_checked (seed_of text) ≡ Checked.Good
+    pub read_seed_good : seed_checked (seed_of text) ≡ Ok tt
     read_seed_good = ap seed_checked seed_part_lem ∙ good.3
 
     -- its count is at most 9,999
     pub read_count_low : n ≤ 9999
     read_count_low =
-        let f = good.5 in
-        let same : number_of 10 (token_at text (count_at text)) ≡ n = cc in
+        let same : number_of 10 (token_at text (count_at text)) ≡ n = ap (λ (r : Result Challenge Refusal). (challenge_numbers r).2) good.5 in
         omega (arith, count_low (token_at text (count_at text)) (must_good (is_count (token_at text (count_at text))) Refusal.CountUnread good.2))
 
 -- ---- the mark
@@ -152,18 +128,27 @@ marked_end text start e = by (token_at text (mark_at text start)) (both (is_mark
     by [] f = absurd (true≢false (sym f))
     by (b ∷ t) f = omega arith
 
-pub mark_end_within : (text : List ℕ) (start : ℕ) → start ≤ length text → mark_end text start ≤ length text
-unfolding mark_end
-mark_end_within text start h =
-    either (λ (k : ℕ). k ≤ length text) (has_mark text start) (λ e. token_within text (mark_at text start) (next_within text start h)) (λ e. omega arith)
+-- the bytes used and the mark, by where the mark ends, and where that is
+module _ (text : List ℕ) (start : ℕ) where
+  pub mark_used : unwrap_or (mark_end text start) (end_of text start) + 1 ≡ used_by text start
+  unfolding mark_end used_by
+  mark_used = cases (has_mark text start) (λ e. rw e refl) (λ e. rw e refl)
+
+  pub mark_said : is_some (mark_end text start) ≡ has_mark text start
+  unfolding mark_end
+  mark_said = cases (has_mark text start) (λ e. rw e refl) (λ e. rw e refl)
+
+  pub mark_end_within : start ≤ length text → unwrap_or (mark_end text start) (end_of text start) ≤ length text
+  unfolding mark_end
+  mark_end_within h =
+      cases (has_mark text start) (λ e. rw e (token_within text (mark_at text start) (next_within text start h))) (λ e. rw e (token_within text start h))
 
 -- what is said by the mark's end is what is said on success
 pub by_mark_end : (text : List ℕ) (algorithm : Algorithm) (count start : ℕ)
     → read_by algorithm count start (length (token_at text start)) (mark_end text start) ≡ read_from text algorithm count start
-unfolding mark_end read_by
-by_mark_end text algorithm count start = cases (has_mark text start)
-    (λ e. rw (e, lt-ltb 0 (end_of text (mark_at text start)) (marked_end text start e), marked_used text start e))
-    (λ e. rw (e, unmarked_used text start e))
+by_mark_end text algorithm count start =
+    ap₂ (λ (used : ℕ) (ext : Bool). a_challenge algorithm count start (length (token_at text start)) used ext)
+    (mark_used text start) (mark_said text start)
 
 -- what stands behind a terminated token that is read lies within the text
 pub terminated_within : (text : List ℕ) (at : ℕ) → terminated (drop at text) ≡ true → at + 1 ≤ length text
@@ -188,17 +173,17 @@ length_challenge ext algorithm seed count = simp (length-append, length-map) (om
 -- ---- the reader's answers, one for each way through the steps
 
 module _ (text : List ℕ) where
-  pub stop1 : same (take 4 text) opening ≡ false → challenge_of text ≡ Challenge.Refused Refusal.OpeningWrong
+  pub stop1 : same (take 4 text) opening ≡ false → challenge_of text ≡ Err Refusal.OpeningWrong
   unfolding challenge_of
   stop1 e = rw e
 
   module _ (e1 : same (take 4 text) opening ≡ true) where
-    pub stop2 : named (token_at text 4) ≡ Named.Unknown → challenge_of text ≡ Challenge.Refused Refusal.AlgorithmUnknown
+    pub stop2 : named (token_at text 4) ≡ None → challenge_of text ≡ Err Refusal.AlgorithmUnknown
     unfolding challenge_of
     stop2 e = rw (e1, e)
 
-    module _ (algorithm : Algorithm) (e2 : named (token_at text 4) ≡ Named.Is algorithm) where
-      pub stop3 : is_count (token_at text (count_at text)) ≡ false → challenge_of text ≡ Challenge.Refused Refusal.CountUnread
+    module _ (algorithm : Algorithm) (e2 : named (token_at text 4) ≡ Some algorithm) where
+      pub stop3 : is_count (token_at text (count_at text)) ≡ false → challenge_of text ≡ Err Refusal.CountUnread
       unfolding challenge_of
       stop3 e = rw (e1, e2, e)
 
@@ -209,12 +194,12 @@ module _ (text : List ℕ) where
         from_seed n e = rw (e1, e2, e3, e)
 
 module _ (text : List ℕ) (algorithm : Algorithm) (count start : ℕ) where
-  pub stop4 : (why : Refusal) → seed_checked (token_at text start) ≡ Checked.Refused why → seed_from text algorithm count start ≡ Challenge.Refused why
+  pub stop4 : (why : Refusal) → seed_checked (token_at text start) ≡ Err why → seed_from text algorithm count start ≡ Err why
   unfolding seed_from
   stop4 why e = rw e
 
-  module _ (e4 : seed_checked (token_at text start) ≡ Checked.Good) where
-    pub stop5 : terminated (drop (end_of text start) text) ≡ false → seed_from text algorithm count start ≡ Challenge.Refused Refusal.SeedUnended
+  module _ (e4 : seed_checked (token_at text start) ≡ Ok tt) where
+    pub stop5 : terminated (drop (end_of text start) text) ≡ false → seed_from text algorithm count start ≡ Err Refusal.SeedUnended
     unfolding seed_from
     stop5 e = rw (e4, e)
 

@@ -1,174 +1,92 @@
 // Reading a challenge, from left to right.
-ghost use Rattle.std.specs.Prelude.{◌≡◌, ◌+◌, ◌^◌, ◌≤◌, ◌<◌, length, take, drop};
+ghost use Rattle.std.specs.Prelude.{◌≡◌, ◌+◌, take};
 ghost use Rattle.text.specs.Tests.{same as same_text};
-ghost use Rattle.text.specs.Counts.{counted_of};
-ghost use Rattle.password.specs.Algorithm.{named};
 ghost use Rattle.challenge.specs.Challenges as spec;
 ghost use Rattle.challenge.specs.Inside as inside;
 
-use password::algorithm::{Algorithm, Named};
+use crate::place::Place;
+use password::algorithm::Algorithm;
 use password::algorithm_names::read_name;
 use password::phrase_and_seed::check_seed;
-use refusal::{Checked, Refusal};
-use text::counts::{Counted, read_count};
-use text::kinds::Kind;
-use text::scan::{run, same, stretch_at};
+use refusal::Refusal;
+use text::counts::read_count;
+use text::scan::same;
 
 // The four bytes that every challenge starts with.
-pub const OPENING: [u8; 4] = [b'o', b't', b'p', b'-'];
-
-const EXT: [u8; 3] = [b'e', b'x', b't'];
-
-const EXT_COMMA: [u8; 4] = [b'e', b'x', b't', b','];
+pub const OPENING: [u8; 4] = *b"otp-";
 
 // What a challenge says: its algorithm, its count, where in its bytes the seed stands, how many bytes were used, and whether it has the mark `ext`: who
-// wrote it takes extended replies. Or what is wrong.
+// wrote it takes extended replies.
 #[derive(Clone, Copy)]
-pub enum Challenge {
-    Read {
-        algorithm: Algorithm,
-        count: u32,
-        start: usize,
-        len: usize,
-        used: usize,
-        ext: bool,
-    },
-    Refused(Refusal),
+pub struct Challenge {
+    pub algorithm: Algorithm,
+    pub count: u32,
+    pub start: usize,
+    pub len: usize,
+    pub used: usize,
+    pub ext: bool,
 }
 
 // Whether the text starts with the four bytes.
 fn is_opened(text: &[u8]) -> bool
     ensures { result ≡ same_text (take 4 text.now) spec.opening }
 {
-    if text.len() < 4 {
-        return false;
-    }
-    same(&text[..4], &OPENING)
-}
-
-// The token that starts at a place.
-fn token(text: &[u8], at: usize) -> &[u8]
-    requires { at ≤ length text.now }
-    ensures { result.now ≡ spec.token_at text.now at }
-{
-    stretch_at(text, at, Kind::Token)
-}
-
-// Where the token after the one at a place starts.
-fn next(text: &[u8], at: usize) -> usize
-    requires { at ≤ length text.now }
-    ensures { result ≡ spec.next_at text.now at }
-{
-    let end = at + token(text, at).len();
-    end + run(text, end, Kind::Blank)
-}
-
-// Whether a space or a newline stands at a place.
-fn is_terminated(text: &[u8], at: usize) -> bool
-    ensures { result ≡ spec.terminated (drop at text.now) }
-{
-    if text.len() <= at {
-        return false;
-    }
-    (text[at] == b' ') | (text[at] == b'\n')
+    text.starts_with(&OPENING)
 }
 
 // Whether a token is the mark: `ext`, alone or with a comma list.
 fn is_mark(t: &[u8]) -> bool
     ensures { result ≡ spec.is_mark t.now }
 {
-    if t.len() < 4 {
-        return same(t, &EXT);
-    }
-    same(&t[..4], &EXT_COMMA)
+    same(t, b"ext") | t.starts_with(b"ext,")
 }
 
-// The algorithm that the rest of the first token names.
-fn algorithm_from(text: &[u8]) -> Named
-    requires { 4 ≤ length text.now }
-    ensures { result ≡ named (spec.token_at text.now 4) }
-{
-    read_name(token(text, 4))
-}
-
-// The count that starts at a place, if it is one.
-fn count_from(text: &[u8], at: usize) -> Counted
-    requires { at ≤ length text.now }
-    ensures { result ≡ counted_of (spec.token_at text.now at) }
-{
-    read_count(token(text, at))
-}
-
-// Where the mark behind the seed at a place ends; 0 where there is none. Where the seed is ended by a newline there is none, since no token starts
+// Where the mark behind the seed at a place ends, if there is one. Where the seed is ended by a newline there is none, since no token starts
 // with that.
-fn mark_end(text: &[u8], start: usize) -> usize
-    requires { start ≤ length text.now }
-    ensures { result ≡ inside.mark_end text.now start }
+fn mark_end(start: Place) -> Option<usize>
+    ensures { result ≡ inside.mark_end start.entry.text.now start.entry.at }
 {
-    let mark = next(text, start);
-    let said = token(text, mark);
-    let end = mark + said.len();
-    if is_mark(said) & is_terminated(text, end) {
-        return end;
-    }
-    0
-}
-
-// What a challenge says once its steps found nothing wrong, by where its mark ends. No mark ends at 0.
-fn read_by(algorithm: Algorithm, count: u32, start: usize, len: usize, end: usize) -> Challenge
-    requires { (start + len + 1 < 2 ^ 64) × (end + 1 < 2 ^ 64) }
-    ensures { result ≡ inside.read_by algorithm count start len end }
-{
-    if 0 < end {
-        return Challenge::Read {
-            algorithm,
-            count,
-            start,
-            len,
-            used: end + 1,
-            ext: true,
-        };
-    }
-    Challenge::Read {
-        algorithm,
-        count,
-        start,
-        len,
-        used: start + len + 1,
-        ext: false,
+    let mark = start.next();
+    let end = mark.end();
+    if is_mark(mark.token()) & end.is_terminated() {
+        Some(end.at)
+    } else {
+        None
     }
 }
 
 // The seed that starts at a place, and the byte after it: steps 4 and 5, once algorithm and count are known.
-fn seed_from(text: &[u8], algorithm: Algorithm, count: u32, start: usize) -> Challenge
-    requires { start ≤ length text.now }
-    ensures { result ≡ inside.seed_from text.now algorithm count start }
+fn seed_from(start: Place, algorithm: Algorithm, count: u32) -> Result<Challenge, Refusal>
+    ensures { result ≡ inside.seed_from start.entry.text.now algorithm count start.entry.at }
 {
-    let seed = token(text, start);
-    if let Checked::Refused(why) = check_seed(seed) {
-        return Challenge::Refused(why);
+    let seed = start.token();
+    check_seed(seed)?;
+    let end = start.end();
+    if !end.is_terminated() {
+        return Err(Refusal::SeedUnended);
     }
-    let len = seed.len();
-    if !is_terminated(text, start + len) {
-        return Challenge::Refused(Refusal::SeedUnended);
-    }
-    read_by(algorithm, count, start, len, mark_end(text, start))
+    let mark = mark_end(start);
+    Ok(Challenge {
+        algorithm,
+        count,
+        start: start.at,
+        len: seed.len(),
+        used: mark.unwrap_or(end.at) + 1,
+        ext: mark.is_some(),
+    })
 }
 
-pub fn read(text: &[u8]) -> Challenge
+pub fn read(text: &[u8]) -> Result<Challenge, Refusal>
     ensures { result ≡ spec.challenge_of text.now }
 {
     if !is_opened(text) {
-        return Challenge::Refused(Refusal::OpeningWrong);
+        return Err(Refusal::OpeningWrong);
     }
-    let Named::Is(algorithm) = algorithm_from(text) else {
-        return Challenge::Refused(Refusal::AlgorithmUnknown);
-    };
-    let at = next(text, 4);
-    let Counted::Is(count) = count_from(text, at) else {
-        return Challenge::Refused(Refusal::CountUnread);
-    };
-    seed_from(text, algorithm, count, next(text, at))
+    let name_at = Place { text, at: 4 };
+    let algorithm = read_name(name_at.token()).ok_or(Refusal::AlgorithmUnknown)?;
+    let count_at = name_at.next();
+    let count = read_count(count_at.token()).ok_or(Refusal::CountUnread)?;
+    seed_from(count_at.next(), algorithm, count)
 }
 
 // The seed, as the part of the text where it stands; after a refusal the empty part at the start.
@@ -177,17 +95,10 @@ pub fn seed_of(text: &[u8]) -> &[u8]
         × (result.ref_ptr.1 ≡ spec.start_of (spec.challenge_of text.now) + text.entry.ref_ptr.1) }
 {
     match read(text) {
-        Challenge::Read {
-            algorithm: _,
-            count: _,
-            start,
-            len,
-            used: _,
-            ext: _,
-        } => {
-            let end = start + len;
-            &text[start..end]
+        Ok(challenge) => {
+            let end = challenge.start + challenge.len;
+            &text[challenge.start..end]
         }
-        Challenge::Refused(_) => &text[..0],
+        Err(_) => &text[..0],
     }
 }

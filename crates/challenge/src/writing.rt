@@ -7,10 +7,10 @@ ghost use Rattle.password.specs.Algorithm.{algorithm_name};
 ghost use Rattle.challenge.specs.Challenges as spec;
 
 use crate::reading::OPENING;
-use password::algorithm::{Algorithm, Named, numbered};
+use password::algorithm::{Algorithm, numbered};
 use password::algorithm_names::{name_length, put_name};
 use password::phrase_and_seed::{check_seed, put_lower};
-use refusal::{Checked, Refusal, Written};
+use refusal::{Refusal, Written};
 use text::counts::{put_count_and, width};
 use text::put::copy;
 
@@ -23,7 +23,7 @@ fn put_head(buf: &mut [u8], algorithm: Algorithm) -> usize
     a + put_name(&mut buf[a..], algorithm)
 }
 
-// How many bytes come after the seed.
+// How many bytes come after the seed. Counted before they are put: a buffer that is too short stays as it was.
 fn ending_length(ext: bool) -> usize
     ensures { result ≡ length (spec.ending ext) }
 {
@@ -73,16 +73,14 @@ pub fn write_by(ext: bool, algorithm: Algorithm, seed: &[u8], count: u32, buf: &
     ensures answered { result ≡ spec.challenge_written_by ext algorithm seed.now count (length buf.old) }
     ensures left { buf.new ≡ leaves result (spec.challenge_text ext algorithm seed.now count) buf.old }
 {
-    if let Checked::Refused(why) = check_seed(seed) {
-        return Written::Refused(why);
-    }
+    check_seed(seed)?;
     if 9999 < count {
-        return Written::Refused(Refusal::CountHigh);
+        return Err(Refusal::CountHigh);
     }
     if buf.len() < name_length(algorithm) + width(count) + seed.len() + ending_length(ext) + 6 {
-        return Written::Refused(Refusal::BufferShort);
+        return Err(Refusal::BufferShort);
     }
-    Written::Wrote(put_challenge(buf, algorithm, seed, count, ext))
+    Ok(put_challenge(buf, algorithm, seed, count, ext))
 }
 
 // The same by the algorithm's number, 21 before the other faults, and without the mark.
@@ -90,8 +88,6 @@ pub fn write(algorithm: u32, seed: &[u8], count: u32, buf: &mut [u8]) -> Written
     ensures answered { result ≡ spec.challenge_written algorithm seed.now count (length buf.old) }
     ensures left { buf.new ≡ leaves result (spec.text_by_number algorithm seed.now count) buf.old }
 {
-    let Named::Is(known) = numbered(algorithm) else {
-        return Written::Refused(Refusal::AlgorithmUnknown);
-    };
+    let known = numbered(algorithm).ok_or(Refusal::AlgorithmUnknown)?;
     write_by(false, known, seed, count, buf)
 }

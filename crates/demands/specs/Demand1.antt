@@ -1,9 +1,8 @@
 -- The letter's first demand: bad input is refused by the number listed for it, and what a refusal changes. The conditions of the
 -- refusals are in `grounds`, Conditions.
-use Rattle.std.specs.Prelude.{ℕ, ◌≤◌, ◌≡◌, refl, ◌↔◌, true, false, not, List, [], ◌∷◌, ◌++◌, map, ltb, length}
+use Rattle.std.specs.Prelude.{ℕ, ◌≤◌, ◌≡◌, refl, ◌↔◌, true, false, not, List, [], ◌∷◌, ◌++◌, map, ltb, length, Err}
 use Rattle.std.proofs.Common.{ap}
 use Rattle.refusal.specs.declared.Refusal.{Refusal}
-use Rattle.refusal.specs.declared.Reading.{Reading}
 use Rattle.refusal.specs.Numbers.{listing_of, checked_numbers, reading_numbers}
 use Rattle.refusal.specs.Each.{Each}
 use Rattle.text.specs.Scan.{tokens}
@@ -18,7 +17,6 @@ use Rattle.sixwords.specs.Spelling.{words_of}
 use Rattle.reply.specs.Reply.{six_words, upper_text, reading_of}
 use Rattle.reply.specs.Marked.{Marked}
 use Rattle.extended.specs.declared.reply_types.ReplyType.{ReplyType}
-use Rattle.extended.specs.declared.reply_texts.ReplyText.{ReplyText}
 use Rattle.extended.specs.ReplyTexts.{password_by, reply_text_of, reply_numbers}
 use Rattle.extended.specs.ReplyWriting.{text_by_numbers, extended_written}
 use Rattle.cards.specs.Cards.{card_of, card_written}
@@ -75,7 +73,7 @@ listed_given = numbers_given
 -- least one mark is set". (`reply` Marked says it of the number m: it is 1 to 63, and for k from 1 to 6 bit k - 1 is set exactly where
 -- word k isn't in the dictionary; the words are taken in upper case, so either case will do.)
 pub marks_of_31 : (text : List ℕ) (m : ℕ)
-    → (reading_of text ≡ Reading.Refused (Refusal.WordUnknown m))
+    → (reading_of text ≡ Err (Refusal.WordUnknown m))
     ↔ ((length text ≤ 128) × (six_words (tokens text) ≡ true) × Marked (map upper_text (tokens text)) m)
 marks_of_31 text m = (
   λ e. let six = unknown_text text m e in (six.0, six.1, (unknown_refused text six.0 six.1 m).0 e),
@@ -83,7 +81,7 @@ marks_of_31 text m = (
 )
 
 -- They are 1 to 63, and one number.
-pub marks_1_to_63 : (text : List ℕ) (m : ℕ) → reading_of text ≡ Reading.Refused (Refusal.WordUnknown m) → (1 ≤ m) × (m ≤ 63)
+pub marks_1_to_63 : (text : List ℕ) (m : ℕ) → reading_of text ≡ Err (Refusal.WordUnknown m) → (1 ≤ m) × (m ≤ 63)
 marks_1_to_63 text m e = let marked = ((marks_of_31 text m).0 e).2 in (marked.some_set, marked.of_six)
 
 pub marks_are_one : (text : List ℕ) → length text ≤ 128 → six_words (tokens text) ≡ true → (m n : ℕ)
@@ -92,11 +90,11 @@ marks_are_one text h e m n f g = marks_one text h e m n f g
 
 -- "Every caller up to the panel passes it on". What C and the programs are told of an answer has the marks beside 31; the panel's
 -- promise is stated with these numbers.
-pub numbers_of_31 : (text : List ℕ) (m : ℕ) → reading_of text ≡ Reading.Refused (Refusal.WordUnknown m)
+pub numbers_of_31 : (text : List ℕ) (m : ℕ) → reading_of text ≡ Err (Refusal.WordUnknown m)
     → reading_numbers (reading_of text) ≡ (record { 0 = 31; 1 = m }, 0)
 numbers_of_31 text m e = ap reading_numbers e
 
-pub reply_numbers_of_31 : (text : List ℕ) (m : ℕ) → reply_text_of text ≡ ReplyText.Refused (Refusal.WordUnknown m)
+pub reply_numbers_of_31 : (text : List ℕ) (m : ℕ) → reply_text_of text ≡ Err (Refusal.WordUnknown m)
     → reply_numbers (reply_text_of text) ≡ (record { 0 = 31; 1 = m }, 0, 0, 0, 0, 0, 0, 0)
 reply_numbers_of_31 text m e = ap reply_numbers e
 
@@ -104,12 +102,12 @@ reply_numbers_of_31 text m e = ap reply_numbers e
 -- never answers 31. Of an `init` reply they are the marks of the new password, or else of the present one.
 pub reply_passes_marks_on : (port : ℕ) (text : List ℕ) (s : State) (m : ℕ)
     → (replied_answer (read_and_offered port text s).answer ≡ Answer.Refused (Refusal.WordUnknown m))
-    ↔ (reply_text_of text ≡ ReplyText.Refused (Refusal.WordUnknown m))
+    ↔ (reply_text_of text ≡ Err (Refusal.WordUnknown m))
 reply_passes_marks_on port text s m = reply_handed_on (Refusal.WordUnknown m) refl port text s
 
 pub renewal_passes_marks_on : (port number count : ℕ) (seed : List ℕ) (new : ℕ) (text : List ℕ) (s : State) (m : ℕ)
     → (replied_answer (read_and_renewed port number count seed new text s).answer ≡ Answer.Refused (Refusal.WordUnknown m))
-    ↔ (reading_of text ≡ Reading.Refused (Refusal.WordUnknown m))
+    ↔ (reading_of text ≡ Err (Refusal.WordUnknown m))
 renewal_passes_marks_on port number count seed new text s m = renewal_handed_on (Refusal.WordUnknown m) refl port number count seed new text s
 
 -- Nor does it answer any other of 30 to 35, on any table: these are the reading's alone.

@@ -1,8 +1,7 @@
 -- The letter's third demand, a theorem for each sentence; R-4: it "speaks of the account's own line, and 180 still holds". `HasTurn p i` says
 -- that the port p is in front of the line of the account i.
-use Rattle.std.specs.Prelude.{ℕ, ◌≤◌, ◌<◌, ◌≡◌, true, List, length}
+use Rattle.std.specs.Prelude.{ℕ, ◌≤◌, ◌<◌, ◌≡◌, true, List, length, Ok}
 use Rattle.std.proofs.Common.{subst}
-use Rattle.refusal.specs.declared.Checked.{Checked}
 use Rattle.text.specs.Tests.{every}
 use Rattle.password.specs.PhraseAndSeed.{phrase_checked}
 use Rattle.password.specs.Algorithm.{numbered, algorithm_in}
@@ -22,7 +21,7 @@ use Rattle.grounds.specs.Replies.{call_taken}
 
 -- "From a fresh table, after any calls, a port that joins successfully has its turn begin by the 180th tick, if its account
 -- isn't removed and the port only looks at its challenge meanwhile, whatever other ports do."
-pub turn_begins : (s : State) → Reached s → (p i : ℕ) → (join p i s).answer ≡ Checked.Good
+pub turn_begins : (s : State) → Reached s → (p i : ℕ) → (join p i s).answer ≡ Ok tt
     → (later : List Call) → quiet_meanwhile p i later (join p i s).state ≡ true → 180 ≤ ticks later
     → TurnBegins p i 180 later (join p i s).state
 turn_begins s r p i e later q t =
@@ -30,7 +29,7 @@ turn_begins s r p i e later q t =
     wait_ends p i later 180 (join p i s).state waits.0 waits.1 waits.2 q t
 
 -- The same where every later call is quiet.
-pub turn_begins_quiet : (s : State) → Reached s → (p i : ℕ) → (join p i s).answer ≡ Checked.Good
+pub turn_begins_quiet : (s : State) → Reached s → (p i : ℕ) → (join p i s).answer ≡ Ok tt
     → (calls : List Call) → every (quiet p i) calls ≡ true → 180 ≤ ticks calls
     → TurnBegins p i 180 calls (join p i s).state
 turn_begins_quiet s r p i e calls q t =
@@ -60,7 +59,7 @@ turn_stays_own s r p i t during q u = turn_keeps p i during s (made s r) t q u
 -- challenge has room for it. The algorithm is the account's own, whichever that is; the challenge names it, and has R-6's mark. A text is read, and what
 -- it says is offered: so is every one that is read to the password to log in, as `hex:` and `word:` replies are (`replies_of`). R-7: so are the eight raw
 -- bytes of the generator's password, with no text.
-pub reply_is_accepted : (s : State) → Reached s → (p i : ℕ) → HasTurn p i s → (phrase : List ℕ) → phrase_checked phrase ≡ Checked.Good
+pub reply_is_accepted : (s : State) → Reached s → (p i : ℕ) → HasTurn p i s → (phrase : List ℕ) → phrase_checked phrase ≡ Ok tt
     → 1 < (account_of i s).count
     → (account_of i s).password ≡ password_of phrase (account_of i s) (account_of i s).count
     → (buffer : List ℕ) → length (challenge_for p s) ≤ length buffer
@@ -79,7 +78,7 @@ challenge_stays s r p i t during q u = challenge_kept p i during s (made s r) t 
 
 -- So the reply may come at any later moment of it: the challenge is read, then others call and ticks pass, and the generator's reply to the
 -- challenge that was read before is accepted.
-pub later_reply_is_accepted : (s : State) → Reached s → (p i : ℕ) → HasTurn p i s → (phrase : List ℕ) → phrase_checked phrase ≡ Checked.Good
+pub later_reply_is_accepted : (s : State) → Reached s → (p i : ℕ) → HasTurn p i s → (phrase : List ℕ) → phrase_checked phrase ≡ Ok tt
     → 1 < (account_of i s).count
     → (account_of i s).password ≡ password_of phrase (account_of i s) (account_of i s).count
     → (buffer : List ℕ) → length (challenge_for p s) ≤ length buffer

@@ -1,8 +1,7 @@
 -- R-4, a line for each account: what calls in other lines leave alone, and what each call does to an account's line. `line_of i` is the line of
 -- the account i, its ports, front first, and its turn.
-use Rattle.std.specs.Prelude.{ℕ, ◌≡◌, true, false, List, []}
+use Rattle.std.specs.Prelude.{ℕ, ◌≡◌, true, false, List, [], Ok}
 use Rattle.refusal.specs.declared.Refusal.{Refusal}
-use Rattle.refusal.specs.declared.Checked.{Checked}
 use Rattle.line.specs.Line.{empty, stands_in, joined, left, ticked}
 use Rattle.accounts.specs.Accounts.{new_room}
 use Rattle.table.specs.Table.{State, is_there, held_of, account_of, line_of, waits}
@@ -30,7 +29,7 @@ pub elsewhere_stays : (s : State) (i : ℕ) → is_there i s ≡ true → (c : C
 elsewhere_stays s i there c e = Isolated.call_elsewhere s i there c e
 
 -- Join for this account, when it is done: a port of no line comes to the back. The turn is 60 then if nobody waited, and goes on otherwise.
-pub join_goes_to_the_back : (s : State) → Reached s → (p i : ℕ) → (join p i s).answer ≡ Checked.Good
+pub join_goes_to_the_back : (s : State) → Reached s → (p i : ℕ) → (join p i s).answer ≡ Ok tt
     → (held_of i (join p i s).state ≡ record { account = account_of i s; line = joined p (line_of i s) })
     × ((line_of i s).ports ≡ [] → (line_of i (join p i s).state).turn ≡ 60)
     × (((line_of i s).ports ≡ [] → ⊥) → (line_of i (join p i s).state).turn ≡ (line_of i s).turn)
@@ -38,11 +37,11 @@ join_goes_to_the_back s r p i e =
     let turn = Isolated.joined_turn p i s (made s r) e in
     ((Isolated.joined_held p i s (made s r) e).0, turn.0, turn.1)
 
-pub join_is_from_no_line : (s : State) (p i : ℕ) → (join p i s).answer ≡ Checked.Good → (j : ℕ) → stands_in p (line_of j s) ≡ false
+pub join_is_from_no_line : (s : State) (p i : ℕ) → (join p i s).answer ≡ Ok tt → (j : ℕ) → stands_in p (line_of j s) ≡ false
 join_is_from_no_line s p i e j = Isolated.joined_from_none p i s e j
 
 -- Leave, when it is done: the port is out of its line, and no account changes.
-pub leave_leaves : (s : State) (p i : ℕ) → (leave p s).answer ≡ Checked.Good
+pub leave_leaves : (s : State) (p i : ℕ) → (leave p s).answer ≡ Ok tt
     → held_of i (leave p s).state ≡ record { account = account_of i s; line = left p (line_of i s) }
 leave_leaves s p i e = Isolated.leave_held p i s e
 
@@ -62,7 +61,7 @@ tick_lowers s i = Isolated.tick_held i s
 
 -- "Remove empties that account's line"; "Every port in line for that account, the front one too, leaves it": the account isn't there then, and
 -- each of them is in no line.
-pub remove_empties : (s : State) → Reached s → (i : ℕ) → (remove i s).answer ≡ Checked.Good
+pub remove_empties : (s : State) → Reached s → (i : ℕ) → (remove i s).answer ≡ Ok tt
     → (is_there i (remove i s).state ≡ false)
     × ((port : ℕ) → stands_in port (line_of i s) ≡ true → waits port (remove i s).state ≡ false)
 remove_empties s r i e = (
@@ -71,6 +70,6 @@ remove_empties s r i e = (
 )
 
 -- Enrol: the account is the new one, and nobody waits for it yet.
-pub enrol_begins_empty : (s : State) → Reached s → (i number count : ℕ) (seed password : List ℕ) → (enrol i number count seed password s).answer ≡ Checked.Good
+pub enrol_begins_empty : (s : State) → Reached s → (i number count : ℕ) (seed password : List ℕ) → (enrol i number count seed password s).answer ≡ Ok tt
     → held_of i (enrol i number count seed password s).state ≡ record { account = new_room i number count seed password; line = empty }
 enrol_begins_empty s r i number count seed password e = Isolated.enrolled_new i number count seed password s (made s r) e

@@ -1,8 +1,8 @@
 -- The letter's case, a building with no tenants: a table with no account answers every call, for every id, port, text and room.
-use Rattle.std.specs.Prelude.{ℕ, ◌≡◌, refl, false, List, [], ◌∷◌, map, length}
+use Rattle.std.specs.Prelude.{ℕ, ◌≡◌, refl, false, List, [], ◌∷◌, map, length, Err}
 use Rattle.std.proofs.Common.{ap, ◌∙◌}
 use Rattle.refusal.specs.declared.Refusal.{Refusal}
-use Rattle.refusal.specs.declared.Checked.{Checked}
+use Rattle.refusal.specs.Answers.{Checked}
 use Rattle.refusal.specs.Checks.{unless, in_order}
 use Rattle.password.specs.Algorithm.{numbered, algorithm_checked}
 use Rattle.password.specs.PhraseAndSeed.{seed_checked}
@@ -40,7 +40,7 @@ own_checks id number count seed = in_order (id_given id ∷ count_within count �
 
 -- 55 for a port over 3, otherwise that refusal.
 abbrev pub at_port : ℕ → Refusal → Answer
-at_port port why = checked_answer (in_order (port_known port ∷ Checked.Refused why ∷ []))
+at_port port why = checked_answer (in_order (port_known port ∷ Err why ∷ []))
 
 -- What each call answers,
 abbrev pub answer_without : Call → Answer
@@ -92,7 +92,7 @@ empty_after s r none Call.Tick = tick_cools s (made s r) none
 -- "A table .. that no calls could make is still answered": there a port may be in line for an account that isn't there. Leave is done,
 -- and Challenge and Offer answer 60, or 54 in front.
 abbrev pub in_turn : ℕ → State → Answer
-in_turn port s = checked_answer (in_order (port_known port ∷ in_line port s ∷ in_front port s ∷ Checked.Refused Refusal.AccountMissing ∷ []))
+in_turn port s = checked_answer (in_order (port_known port ∷ in_line port s ∷ in_front port s ∷ Err Refusal.AccountMissing ∷ []))
 
 abbrev pub answer_anyway : Call → State → Answer
 answer_anyway (Call.Enrol id number count seed password) s = checked_answer (own_checks id number count seed)

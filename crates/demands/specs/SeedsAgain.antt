@@ -2,10 +2,10 @@
 -- seed is one of those. `Offers p (Offered.Renewal ..) c` says that with the call c the port p offers new values and passwords; `Renews` that a call
 -- renews the account: it is one of these, by the port that has the turn for it, and accepted.
 -- `following` has the seeds that an account gets while calls are made, in order; `seeds_along` has first the one that it has before them.
-use Rattle.std.specs.Prelude.{ℕ, ◌+◌, ◌≤◌, ◌<◌, ◌≡◌, ◌↔◌, true, false, List, [], ◌∷◌, ◌++◌, map, reverse, length, get_or, take, drop}
+use Rattle.std.specs.Prelude.{ℕ, ◌+◌, ◌≤◌, ◌<◌, ◌≡◌, ◌↔◌, true, false, List, [], ◌∷◌, ◌++◌, map, reverse, length, get_or, take, drop, Ok}
 use Rattle.std.proofs.Common.{ap}
 use Rattle.refusal.specs.declared.Refusal.{Refusal}
-use Rattle.refusal.specs.declared.Checked.{Checked}
+use Rattle.refusal.specs.Answers.{Checked}
 use Rattle.refusal.specs.Checks.{in_order}
 use Rattle.refusal.specs.Each.{Each}
 use Rattle.text.specs.Kinds.{lower_of}
@@ -41,7 +41,7 @@ before_same p number count seed s = in_order (turn_checked p s ∷ count_within 
 pub refused_63_exactly : (p number count : ℕ) (seed : List ℕ) (new present : ℕ) (c : Call) (s : State)
     → Offers p (Offered.Renewal number count seed new present) c
     → (answer c s ≡ Answer.Refused Refusal.SeedSame)
-    ↔ ((before_same p number count seed s ≡ Checked.Good) × (is_one_of (map lower_of seed) (remembered (own_account p s)) ≡ true))
+    ↔ ((before_same p number count seed s ≡ Ok tt) × (is_one_of (map lower_of seed) (remembered (own_account p s)) ≡ true))
 refused_63_exactly p number count seed new present c s own = Remembering.remembered_exactly p number count seed new present c s own
 
 -- ---- "An account shall remember its last eight seeds, the present one included"
@@ -96,7 +96,7 @@ last_eight_seeds s i there few calls keep = last_eight i calls s there keep few
 
 -- From its enrolment on these are the last eight of all that it has had.
 pub last_eight_since_enrolment : (s : State) (i number count : ℕ) (seed password : List ℕ)
-    → (enrol i number count seed password s).answer ≡ Checked.Good → (calls : List Call) → every (keeps_account i) calls ≡ true
+    → (enrol i number count seed password s).answer ≡ Ok tt → (calls : List Call) → every (keeps_account i) calls ≡ true
     → remembered (account_of i (run calls (enrol i number count seed password s).state))
     ≡ take 8 (reverse (seeds_along i calls (enrol i number count seed password s).state))
 last_eight_since_enrolment s i number count seed password e calls keep = eight_since_enrolled i number count seed password s e calls keep
@@ -104,11 +104,11 @@ last_eight_since_enrolment s i number count seed password e calls keep = eight_s
 -- ---- "Remove forgets them"
 
 -- Remove, when it is done, leaves the account's room free, with no seed in it: on any table.
-pub remove_forgets : (s : State) (i : ℕ) → (remove i s).answer ≡ Checked.Good → (room_at (place_of i s.rooms) (remove i s).state).account ≡ free
+pub remove_forgets : (s : State) (i : ℕ) → (remove i s).answer ≡ Ok tt → (room_at (place_of i s.rooms) (remove i s).state).account ≡ free
 remove_forgets s i e = ap (λ (held : Held). held.account) (removed_free i s e)
 
 -- Enrol begins with one: on any table, whatever stood in that room, or had that id, before.
-pub enrol_begins_with_one : (s : State) (i number count : ℕ) (seed password : List ℕ) → (enrol i number count seed password s).answer ≡ Checked.Good
+pub enrol_begins_with_one : (s : State) (i number count : ℕ) (seed password : List ℕ) → (enrol i number count seed password s).answer ≡ Ok tt
     → remembered (account_of i (enrol i number count seed password s).state) ≡ map lower_of seed ∷ []
 enrol_begins_with_one s i number count seed password e = ap remembered (enrolled_account i number count seed password s e)
 

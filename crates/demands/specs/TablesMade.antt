@@ -1,8 +1,8 @@
 -- What holds of tables that calls make.
-use Rattle.std.specs.Prelude.{ℕ, ◌≤◌, ◌≡◌, true, ◌↔◌, List, [], ◌∷◌, length}
+use Rattle.std.specs.Prelude.{ℕ, ◌≤◌, ◌≡◌, true, ◌↔◌, List, [], ◌∷◌, length, Ok, Err}
 use Rattle.std.proofs.Common.{subst}
 use Rattle.refusal.specs.declared.Refusal.{Refusal}
-use Rattle.refusal.specs.declared.Checked.{Checked}
+use Rattle.refusal.specs.Answers.{Checked}
 use Rattle.refusal.specs.Checks.{in_order}
 use Rattle.password.specs.Algorithm.{numbered, algorithm_checked}
 use Rattle.password.specs.PhraseAndSeed.{seed_checked}
@@ -46,13 +46,13 @@ before_full id number count seed s = in_order (id_given id ∷ count_within coun
 
 -- "53 is given exactly when 32 accounts are there", where the checks before it find nothing wrong.
 pub enrol_full_exactly : (s : State) → Reached s → (id number count : ℕ) (seed password : List ℕ)
-    → ((enrol id number count seed password s).answer ≡ Checked.Refused Refusal.TableFull)
-    ↔ ((before_full id number count seed s ≡ Checked.Good) × (accounts_in s.rooms ≡ 32))
+    → ((enrol id number count seed password s).answer ≡ Err Refusal.TableFull)
+    ↔ ((before_full id number count seed s ≡ Ok tt) × (accounts_in s.rooms ≡ 32))
 enrol_full_exactly s r id number count seed password = enrol_full id number count seed password s (made_housed s (made s r))
 
 -- "A removed account's room is used again": after a Remove that is done, from a full table too, an Enrol is done unless one of the
 -- checks before 53 refuses it.
-pub removed_room_is_used : (s : State) → Reached s → (gone : ℕ) → (remove gone s).answer ≡ Checked.Good → (id number count : ℕ) (seed password : List ℕ)
-    → before_full id number count seed (remove gone s).state ≡ Checked.Good
-    → (enrol id number count seed password (remove gone s).state).answer ≡ Checked.Good
+pub removed_room_is_used : (s : State) → Reached s → (gone : ℕ) → (remove gone s).answer ≡ Ok tt → (id number count : ℕ) (seed password : List ℕ)
+    → before_full id number count seed (remove gone s).state ≡ Ok tt
+    → (enrol id number count seed password (remove gone s).state).answer ≡ Ok tt
 removed_room_is_used s r gone e id number count seed password good = removed_room_used gone s (made_housed s (made s r)) e id number count seed password good

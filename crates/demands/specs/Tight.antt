@@ -1,7 +1,6 @@
 -- 'By the 180th tick' is tight: a port that joins fourth, with no tick before, waits for just so many. `three_wait` is an account, of either
 -- algorithm, and three ports in line for it; `has_turn_after` says that the fourth has the turn so many ticks after it has joined.
-use Rattle.std.specs.Prelude.{◌≡◌, true, not, replicate}
-use Rattle.refusal.specs.declared.Checked.{Checked}
+use Rattle.std.specs.Prelude.{◌≡◌, true, not, replicate, Ok}
 use Rattle.text.specs.Tests.{every}
 use Rattle.digests.specs.Lists.{up_to}
 use Rattle.password.specs.declared.algorithm.Algorithm.{Algorithm}
@@ -12,7 +11,7 @@ use Rattle.reached.specs.InTurn.{TurnBegins}
 use Rattle.grounds.specs.LongestWait as LongestWait
 use Rattle.grounds.specs.LongestWait.{three_wait, has_turn_after}
 
-pub fourth_joins : (algorithm : Algorithm) → (join 3 1 (run (three_wait algorithm) fresh)).answer ≡ Checked.Good
+pub fourth_joins : (algorithm : Algorithm) → (join 3 1 (run (three_wait algorithm) fresh)).answer ≡ Ok tt
 fourth_joins algorithm = LongestWait.fourth_joins algorithm
 
 -- Not after 0 to 179 ticks, and then after 180.

@@ -14,7 +14,7 @@ use contract.Monad.{Fun, fact}
 use contract.Lifetimes.{Lfts}
 use denote.Triple.Clauses.{AtExit, Clauses, Ended}
 use denote.Triple.Entry.{Args, Res}
-use Rattle.refusal.specs.declared.Written.{Written}
+use Rattle.refusal.specs.Answers.{Written}
 use Rattle.text.specs.Put.{leaves}
 
 -- Two answers that meet the promise, for the same arguments, are equal.

@@ -5,9 +5,14 @@ use Rattle.block.proofs.from_high.Reads as from_high
 use Rattle.block.proofs.block.Reads as block
 use Rattle.block.proofs.arithmetic.add.Reads as add
 use Rattle.block.proofs.arithmetic.rotated.Reads as rotated
+use Rattle.block.proofs.bitwise.choice.Reads as choice
+use Rattle.block.proofs.bitwise.parity.Reads as parity
 use Rattle.block.proofs.by_four.part.Reads as part
 use Rattle.block.proofs.as_bytes.word.Reads as put_word
 use Rattle.block.proofs.as_bytes.two_words.Reads as put_two_words
+use Rattle.block.proofs.hashing.hash.Reads as hash
+use Rattle.block.proofs.hashing.hash_eight.Reads as hash_eight
+use Rattle.block.proofs.hashing.digest.Reads as hash_digest
 use Rattle.md5_hash.proofs.compress.compress_eight.Reads as compress_eight
 use Rattle.md5_hash.proofs.compress.registers.Reads as registers
 use Rattle.md5_hash.proofs.digest.digest.Reads as digest
@@ -45,6 +50,12 @@ add_determined k a y z e f p q = p ∙ sym q
 pub rotated_determined : Answers rotated.Learnt
 rotated_determined k a y z e f p q = p ∙ sym q
 
+pub choice_determined : Answers choice.Learnt
+choice_determined k a y z e f p q = p.0 ∙ sym q.0
+
+pub parity_determined : Answers parity.Learnt
+parity_determined k a y z e f p q = p ∙ sym q
+
 pub part_determined : Answers part.Learnt
 part_determined k a y z e f p q = p ∙ sym q
 
@@ -53,6 +64,17 @@ put_word_determined k a y z e f p q = both p q
 
 pub put_two_words_determined : AnswersAndLent put_two_words.Learnt (λ k e. e.1.0.now)
 put_two_words_determined k a y z e f p q = both p q
+
+-- Of every hash function: the three types of the trait, their laws, and what its two bounds give.
+pub hash_determined : (T₁ T₂ T₃ : _) (L₁ L₂ L₃ C H B W D E F G : _) → Answers (hash.Learnt T₁ T₂ T₃ L₁ L₂ L₃ C H B W D E F G)
+hash_determined T₁ T₂ T₃ L₁ L₂ L₃ C H B W D E F G k a y z e f p q = p ∙ sym q
+
+pub hash_eight_determined : (T₁ T₂ T₃ : _) (L₁ L₂ L₃ C H B W D E F G : _) → Answers (hash_eight.Learnt T₁ T₂ T₃ L₁ L₂ L₃ C H B W D E F G)
+hash_eight_determined T₁ T₂ T₃ L₁ L₂ L₃ C H B W D E F G k a y z e f p q = p ∙ sym q
+
+pub hash_digest_determined : (T₁ T₂ T₃ : _) (L₁ L₂ L₃ C H B W D E F G : _)
+    → AnswersAndLent (hash_digest.Learnt T₁ T₂ T₃ L₁ L₂ L₃ C H B W D E F G) (λ k e. e.1.0.now)
+hash_digest_determined T₁ T₂ T₃ L₁ L₂ L₃ C H B W D E F G k a y z e f p q = left _ _ p q
 
 pub compress_eight_determined : Answers compress_eight.Learnt
 compress_eight_determined k a y z e f p q = p ∙ sym q

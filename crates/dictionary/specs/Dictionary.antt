@@ -1,6 +1,5 @@
 -- The word at a place of the dictionary and the place of a word in it; then the same of words packed into numbers.
-use Rattle.std.specs.Prelude.{ℕ, suc, ◌+◌, ◌*◌, ◌-◌, ◌/◌, ◌%◌, ◌^◌, ◌<◌, ◌≡◌, cond, List, [], ◌∷◌, map, eqb, ltb, length, get_or}
-use Rattle.dictionary.specs.declared.Found.{Found}
+use Rattle.std.specs.Prelude.{ℕ, suc, ◌+◌, ◌*◌, ◌-◌, ◌/◌, ◌%◌, ◌^◌, ◌<◌, ◌≡◌, cond, List, [], ◌∷◌, map, eqb, ltb, length, get_or, Option, Some, None}
 use Rattle.text.specs.Tests.{same}
 use Rattle.dictionary.specs.Words.{words}
 
@@ -9,12 +8,12 @@ abbrev pub word_at : ℕ → List ℕ
 word_at i = get_or words i []
 
 -- where a word first stands in a list whose places count from i
-unfoldable pub stands_from : ℕ → List ℕ → List (List ℕ) → Found
-stands_from i w [] = Found.Nothing
-stands_from i w (v ∷ vs) = cond (same w v) (Found.At i) (stands_from (suc i) w vs)
+unfoldable pub stands_from : ℕ → List ℕ → List (List ℕ) → Option ℕ
+stands_from i w [] = None
+stands_from i w (v ∷ vs) = cond (same w v) (Some i) (stands_from (suc i) w vs)
 
 -- the place of a word, if it is in the dictionary
-unfoldable pub place_of : List ℕ → Found
+unfoldable pub place_of : List ℕ → Option ℕ
 place_of w = stands_from 0 w words
 
 -- a word that stands at no place
@@ -52,10 +51,10 @@ abbrev pub packed_at : ℕ → ℕ
 packed_at i = get_or dictionary i 0
 
 -- where x first stands in a list whose places count from i
-unfoldable pub place_from : ℕ → ℕ → List ℕ → Found
-place_from i x [] = Found.Nothing
-place_from i x (y ∷ ys) = cond (eqb x y) (Found.At i) (place_from (suc i) x ys)
+unfoldable pub place_from : ℕ → ℕ → List ℕ → Option ℕ
+place_from i x [] = None
+place_from i x (y ∷ ys) = cond (eqb x y) (Some i) (place_from (suc i) x ys)
 
 -- the place of a packed word
-unfoldable pub found_of : ℕ → Found
+unfoldable pub found_of : ℕ → Option ℕ
 found_of x = place_from 0 x dictionary

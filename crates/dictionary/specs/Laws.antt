@@ -1,5 +1,6 @@
 -- The dictionary's laws: its two runs, and that each word has one place, which is where the look-up finds it.
-use Rattle.std.specs.Prelude.{ℕ, zero, suc, ◌+◌, ◌*◌, ◌-◌, ◌/◌, ◌%◌, ◌^◌, ◌≤◌, ◌<◌, ◌≡◌, refl, Bool, true, false, cond, ◌&&◌, T, leb, eqb, length, get_or}
+use Rattle.std.specs.Prelude.{ℕ, zero, suc, ◌+◌, ◌*◌, ◌-◌, ◌/◌, ◌%◌, ◌^◌, ◌≤◌, ◌<◌, ◌≡◌, refl}
+use Rattle.std.specs.Prelude.{Bool, true, false, cond, ◌&&◌, T, leb, eqb, length, get_or, Option, Some, None}
 use Rattle.std.specs.Prelude.{take, drop}
 use Rattle.std.proofs.Common.{arith, le_of_suc-le-suc, not-suc-le-zero, sym, ◌∙◌, ap, ap₂, leb→le, eqb→eq, get_or-take, get_or-drop, lt-ltb, le-ltb, eq-eqb}
 use Rattle.std.proofs.Common.{ne_eqb, eqb-true}
@@ -8,7 +9,6 @@ use Rattle.std.proofs.lemmas.Bool.{false≢true}
 use mathlib.Core.List.{List, [], ◌∷◌, map, flatten}
 use Rattle.std.proofs.Math.ListN.{get_or-map}
 use Rattle.std.proofs.lemmas.List.{length-map}
-use Rattle.dictionary.specs.declared.Found.{Found}
 use Rattle.text.specs.Quoted.{codes}
 use Rattle.text.specs.Tests.{same, same_equal, same_self, cases}
 use Rattle.dictionary.specs.Words.{words_in, lines, words}
@@ -93,30 +93,30 @@ unfolding dictionary packed number_from
 packed_at_lem i = get_or-map packed words i []
 
 -- where a look-up ends
-place_nowhere : (n x : ℕ) (xs : List ℕ) → ((j : ℕ) → j < length xs → get_or xs j 0 ≡ x → ⊥) → place_from n x xs ≡ Found.Nothing
+place_nowhere : (n x : ℕ) (xs : List ℕ) → ((j : ℕ) → j < length xs → get_or xs j 0 ≡ x → ⊥) → place_from n x xs ≡ None
 unfolding place_from
 place_nowhere n x [] f = refl
 place_nowhere n x (y ∷ ys) f =
     rw (ne_eqb x y (λ p. f zero (omega arith) (sym p)))
     (place_nowhere (suc n) x ys (λ j l. f (suc j) (omega arith)))
 
-place_is : (n x : ℕ) (xs : List ℕ) (m : ℕ) → place_from n x xs ≡ Found.At m → (k : ℕ) × (m ≡ n + k) × (k < length xs) × (get_or xs k 0 ≡ x)
+place_is : (n x : ℕ) (xs : List ℕ) (m : ℕ) → place_from n x xs ≡ Some m → (k : ℕ) × (m ≡ n + k) × (k < length xs) × (get_or xs k 0 ≡ x)
 unfolding place_from
 place_is n x [] m e = let z : ◌≡◌ {A = ℕ} 0 1 = cc in absurd (omega arith)
 place_is n x (y ∷ ys) m e = go (eqb x y) refl e (place_is (suc n) x ys m)
   where
-    go : (b : Bool) → eqb x y ≡ b → cond b (Found.At n) (place_from (suc n) x ys) ≡ Found.At m →
-        (place_from (suc n) x ys ≡ Found.At m → (k : ℕ) × (m ≡ suc n + k) × (k < length ys) × (get_or ys k 0 ≡ x)) →
+    go : (b : Bool) → eqb x y ≡ b → cond b (Some n) (place_from (suc n) x ys) ≡ Some m →
+        (place_from (suc n) x ys ≡ Some m → (k : ℕ) × (m ≡ suc n + k) × (k < length ys) × (get_or ys k 0 ≡ x)) →
         (k : ℕ) × (m ≡ n + k) × (k < suc (length ys)) × (get_or (y ∷ ys) k 0 ≡ x)
     go true t e later = let same : n ≡ m = cc in (0, omega arith, omega arith, sym (eqb-true x y t))
     go false t e later = let r = later e in (suc r.0, omega arith, omega arith, r.3)
 
 -- the look-up finds nothing else
-pub no_place : (x : ℕ) → ((i : ℕ) → i < 2048 → packed_at i ≡ x → ⊥) → found_of x ≡ Found.Nothing
+pub no_place : (x : ℕ) → ((i : ℕ) → i < 2048 → packed_at i ≡ x → ⊥) → found_of x ≡ None
 unfolding found_of
 no_place x f = place_nowhere 0 x dictionary (λ j l. f j (rw dictionary_count at l))
 
-pub found_place : (x i : ℕ) → found_of x ≡ Found.At i → (i < 2048) × (packed_at i ≡ x)
+pub found_place : (x i : ℕ) → found_of x ≡ Some i → (i < 2048) × (packed_at i ≡ x)
 unfolding found_of
 found_place x i e =
     let r = place_is 0 x dictionary i e in
@@ -219,7 +219,7 @@ stands_packed : (i : ℕ) (w : List ℕ) (ws : List (List ℕ)) → Spelt w → 
 unfolding place_from stands_from
 stands_packed i w [] s f = refl
 stands_packed i w (v ∷ vs) s f =
-    ap₂ (λ (t : Bool) (later : Found). cond t (Found.At i) later) (same-packed w v s (f zero (omega arith)))
+    ap₂ (λ (t : Bool) (later : Option ℕ). cond t (Some i) later) (same-packed w v s (f zero (omega arith)))
     (stands_packed (suc i) w vs s (λ k h. f (suc k) (omega arith)))
 
 pub place_packed : (w : List ℕ) → Spelt w → found_of (packed w) ≡ place_of w

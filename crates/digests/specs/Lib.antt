@@ -2,6 +2,7 @@
 pub mod Lists
 pub mod Words32
 pub mod Padding
+pub mod Hash
 pub mod Rounds
 pub mod Md5
 pub mod Sha1

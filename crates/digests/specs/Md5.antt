@@ -4,7 +4,8 @@ use Rattle.digests.specs.declared.Order.{Order}
 use Rattle.digests.specs.declared.State.{State}
 use Rattle.digests.specs.Words32.{bytes4}
 use Rattle.digests.specs.Padding.{blocks, absorbed}
-use Rattle.digests.specs.Rounds.{compressed}
+use Rattle.digests.specs.Hash.{Kept}
+use Rattle.digests.specs.Rounds.{compressed, increased}
 
 -- 3.3: the registers at the start
 abbrev pub initial : State
@@ -21,3 +22,7 @@ output q =
 
 unfoldable pub md5 : List ℕ → List ℕ
 md5 m = output (registers m)
+
+-- What MD5 keeps of a message.
+abbrev pub kept : Kept State
+kept = record { order = Order.Little; initial = initial; summed = increased; output = output }

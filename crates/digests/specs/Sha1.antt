@@ -5,6 +5,7 @@ use Rattle.digests.specs.declared.Order.{Order}
 use Rattle.digests.specs.declared.FiveWords.{FiveWords}
 use Rattle.digests.specs.Words32.{add, rotated, complement, bytes4}
 use Rattle.digests.specs.Padding.{blocks, absorbed}
+use Rattle.digests.specs.Hash.{Kept}
 
 -- 4.1.1: the functions, and the one of step t
 abbrev pub Ch : ℕ → ℕ → ℕ → ℕ
@@ -83,3 +84,13 @@ unfoldable pub sha1 : List ℕ → List ℕ
 sha1 m =
     bytes4 Order.Big (hash_value m).a ++ bytes4 Order.Big (hash_value m).b ++ bytes4 Order.Big (hash_value m).c
     ++ bytes4 Order.Big (hash_value m).d ++ bytes4 Order.Big (hash_value m).e
+
+-- The five words as the digest's bytes; what SHA-1 keeps of a message, and the steps of a block.
+abbrev pub output : FiveWords → List ℕ
+output H = bytes4 Order.Big H.a ++ bytes4 Order.Big H.b ++ bytes4 Order.Big H.c ++ bytes4 Order.Big H.d ++ bytes4 Order.Big H.e
+
+abbrev pub kept : Kept FiveWords
+kept = record { order = Order.Big; initial = initial; summed = summed; output = output }
+
+abbrev pub eighty : List ℕ → FiveWords → FiveWords
+eighty M = steps (schedule M 80) 80

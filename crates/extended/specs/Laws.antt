@@ -1,10 +1,10 @@
 -- Laws of parts, of words and of what a text says: what lies within the text.
-use Rattle.std.specs.Prelude.{ℕ, suc, ◌+◌, ◌≤◌, ◌<◌, ◌≡◌, refl, Bool, true, false, cond, not, ◌&&◌, List, [], ◌∷◌, ◌++◌, eqb, leb, length, get_or, take, drop}
+use Rattle.std.specs.Prelude.{ℕ, suc, ◌+◌, ◌≤◌, ◌<◌, ◌≡◌, refl, Bool, true, false, cond, not}
+use Rattle.std.specs.Prelude.{◌&&◌, List, [], ◌∷◌, ◌++◌, eqb, leb, length, get_or, take, drop, Ok, Err}
 use Rattle.std.proofs.Common.{zero-le, ◌∙◌, ap, ap₂, subst, arith, add-one, length-append, length-drop, drop_of_length-le, drop-cons, ne_eqb, eqb-true}
 use Rattle.std.proofs.Common.{leb-true, leb-false}
 use Rattle.std.proofs.lemmas.Bool.{not-true, eqb-false}
-use Rattle.refusal.specs.declared.Checked.{Checked}
-use Rattle.refusal.specs.declared.Reading.{Reading}
+use Rattle.refusal.specs.Answers.{Checked, Reading}
 use Rattle.refusal.specs.Checks.{unless}
 use Rattle.text.specs.Kinds.{in_part, is_white, is_solid}
 use Rattle.text.specs.Scan.{run_of}
@@ -173,8 +173,8 @@ unfolding typed_in
 typed_end kind text = either (λ (r : Said). seed_end r ≤ length text) (is_init kind) (λ e. renewal_end kind text) (λ e. zero-le)
 
 unless_end : (n : ℕ) (k : Checked) (r : Said) → seed_end r ≤ n → seed_end (unless Said.Refused k r) ≤ n
-unless_end n Checked.Good r h = h
-unless_end n (Checked.Refused why) r h = zero-le
+unless_end n (Ok _) r h = h
+unless_end n (Err why) r h = zero-le
 
 text_end : (text : List ℕ) → seed_end (said_in text) ≤ length text
 unfolding said_in extended_of

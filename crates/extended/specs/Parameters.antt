@@ -1,12 +1,12 @@
 -- RFC 2243: the parameters of an `init` reply, "as in `md5 499 ke1235`": algorithm, count and seed, with white space between and around them.
-use Rattle.std.specs.Prelude.{ℕ, suc, ◌+◌, cond, ◌&&◌, List, [], ◌∷◌, eqb, drop}
+use Rattle.std.specs.Prelude.{ℕ, suc, ◌+◌, cond, ◌&&◌, List, [], ◌∷◌, eqb, drop, Option, Some, None}
 use Rattle.text.specs.Kinds.{is_white, is_solid}
 use Rattle.text.specs.Scan.{run_of, stretch}
 use Rattle.text.specs.Digits.{number_of}
 use Rattle.text.specs.Counts.{is_count}
-use Rattle.password.specs.declared.algorithm.Named.{Named}
 use Rattle.password.specs.Algorithm.{algorithm_number, named}
 use Rattle.extended.specs.declared.parameters.Parameters.{Parameters}
+use Rattle.password.specs.declared.algorithm.Algorithm.{Algorithm}
 
 -- The word that starts at a place; nothing where none is left.
 unfoldable pub word_at : List ℕ → ℕ → List ℕ
@@ -29,9 +29,9 @@ abbrev pub seed_after : List ℕ → ℕ
 seed_after part = word_after part (count_after part)
 
 -- An algorithm's number; 0, which none has, for a name that is none's.
-abbrev pub name_number : Named → ℕ
-name_number (Named.Is algorithm) = algorithm_number algorithm
-name_number Named.Unknown = 0
+abbrev pub name_number : Option Algorithm → ℕ
+name_number (Some algorithm) = algorithm_number algorithm
+name_number None = 0
 
 -- A count; 0, which 51 refuses, for a word that is none.
 abbrev pub count_in : List ℕ → ℕ

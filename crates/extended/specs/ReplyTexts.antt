@@ -1,9 +1,8 @@
 -- 02, R-6 and R-7, and RFC 2243: what the text of a reply says, plain or extended, and what it is read to. No table is looked at.
-use Rattle.std.specs.Prelude.{ℕ, suc, ◌+◌, cond, List, [], ◌∷◌, eqb, leb, length, take, drop}
+use Rattle.std.specs.Prelude.{ℕ, suc, ◌+◌, cond, List, [], ◌∷◌, eqb, leb, length, take, drop, Ok, Err, Result}
 use Rattle.refusal.specs.declared.Refusal.{Refusal}
-use Rattle.refusal.specs.declared.Checked.{Checked}
+use Rattle.refusal.specs.Answers.{Checked, Reading}
 use Rattle.refusal.specs.declared.Listing.{Listing}
-use Rattle.refusal.specs.declared.Reading.{Reading}
 use Rattle.refusal.specs.Numbers.{listing_of, unrefused}
 use Rattle.refusal.specs.Checks.{must, unless, in_order}
 use Rattle.text.specs.Kinds.{in_part}
@@ -88,34 +87,40 @@ said_in text = cond (eqb (colons text) 0) (Said.Login (reading_of text)) (extend
 
 -- ---- R-7: what it is read to
 
+-- A text that is read to a password, and one that is read to a renewal.
+abbrev pub a_login : ℕ → Result ReplyText Refusal
+a_login password = Ok (ReplyText.Login password)
+
+abbrev pub a_renewal : ℕ → ℕ → ℕ → ℕ → ℕ → ℕ → Result ReplyText Refusal
+a_renewal number count start len new present = Ok (ReplyText.Renewal number count start len new present)
+
 -- What is done with a password that was read; a refusal to read it is the answer.
-abbrev pub with_read : Reading → (ℕ → ReplyText) → ReplyText
-with_read (Reading.Password password) next = next password
-with_read (Reading.Refused why) next = ReplyText.Refused why
+abbrev pub with_read : Reading → (ℕ → Result ReplyText Refusal) → Result ReplyText Refusal
+with_read (Ok password) next = next password
+with_read (Err why) next = Err why
 
 -- "reading a text to a password"; "An `init` text reads to two passwords and its new values", refused with "31 to 33 for the new password, then for the
 -- present one. Of the parameters it refuses nothing".
-abbrev pub read_to : Said → ReplyText
-read_to (Said.Login present) = with_read present ReplyText.Login
+abbrev pub read_to : Said → Result ReplyText Refusal
+read_to (Said.Login present) = with_read present a_login
 read_to (Said.Renewal number count start len new present) =
-    with_read new (λ next. with_read present (λ password. ReplyText.Renewal number count start len next password))
-read_to (Said.Refused why) = ReplyText.Refused why
+    with_read new (λ next. with_read present (λ password. a_renewal number count start len next password))
+read_to (Said.Refused why) = Err why
 
-unfoldable pub reply_text_of : List ℕ → ReplyText
+unfoldable pub reply_text_of : List ℕ → Result ReplyText Refusal
 reply_text_of text = read_to (said_in text)
 
 -- The number and values of what a text is read to: 1 for a renewal, its algorithm's number and count, where its seed starts and how long it is, and its new
 -- password, all 0 for a login; then the password. After a refusal every value is 0.
-abbrev pub reply_numbers : ReplyText → Listing × ℕ × ℕ × ℕ × ℕ × ℕ × ℕ × ℕ
-reply_numbers (ReplyText.Login password) = (unrefused, 0, 0, 0, 0, 0, 0, password)
-reply_numbers (ReplyText.Renewal number count start len new present) = (unrefused, 1, number, count, start, len, new, present)
-reply_numbers (ReplyText.Refused why) = (listing_of why, 0, 0, 0, 0, 0, 0, 0)
+abbrev pub reply_numbers : Result ReplyText Refusal → Listing × ℕ × ℕ × ℕ × ℕ × ℕ × ℕ × ℕ
+reply_numbers (Ok (ReplyText.Login password)) = (unrefused, 0, 0, 0, 0, 0, 0, password)
+reply_numbers (Ok (ReplyText.Renewal number count start len new present)) = (unrefused, 1, number, count, start, len, new, present)
+reply_numbers (Err why) = (listing_of why, 0, 0, 0, 0, 0, 0, 0)
 
 -- What a text is refused with.
-abbrev pub text_checked : ReplyText → Checked
-text_checked (ReplyText.Login password) = Checked.Good
-text_checked (ReplyText.Renewal number count start len new present) = Checked.Good
-text_checked (ReplyText.Refused why) = Checked.Refused why
+abbrev pub text_checked : Result ReplyText Refusal → Checked
+text_checked (Ok said) = Ok tt
+text_checked (Err why) = Err why
 
 -- "the part of the caller's text where it stands": the seed of a renewal that starts at a place, and that place, or the start where the text is shorter.
 abbrev pub seed_part : List ℕ → ℕ → ℕ → List ℕ

@@ -1,7 +1,6 @@
 -- 02, R-6: the writer of extended replies. Passwords are as 01 writes them.
-use Rattle.std.specs.Prelude.{ℕ, cond, List, [], ◌∷◌, ◌++◌}
-use Rattle.refusal.specs.declared.Checked.{Checked}
-use Rattle.refusal.specs.declared.Written.{Written}
+use Rattle.std.specs.Prelude.{ℕ, cond, List, [], ◌∷◌, ◌++◌, Ok, Err}
+use Rattle.refusal.specs.Answers.{Checked, Written}
 use Rattle.refusal.specs.Checks.{unless}
 use Rattle.text.specs.Counts.{decimal_of}
 use Rattle.text.specs.Put.{written_of}
@@ -35,7 +34,7 @@ extended_text kind password algorithm count seed new =
 
 -- "for `init` types 51, 21, 23, 24"; for the others nothing but the password is looked at
 unfoldable pub renewal_checked : ReplyType → ℕ → ℕ → List ℕ → Checked
-renewal_checked kind number count seed = cond (is_init kind) (new_checked number count seed) Checked.Good
+renewal_checked kind number count seed = cond (is_init kind) (new_checked number count seed) (Ok tt)
 
 -- The writer: 34, then those, "then 40". Type and algorithm are given by their numbers.
 abbrev pub text_by_numbers : ℕ → ℕ → ℕ → ℕ → List ℕ → ℕ → List ℕ
@@ -44,6 +43,6 @@ text_by_numbers type password number count seed new =
 
 unfoldable pub extended_written : ℕ → ℕ → ℕ → ℕ → List ℕ → ℕ → ℕ → Written
 extended_written type password number count seed new room =
-    unless Written.Refused (type_checked (type_numbered type))
-    (unless Written.Refused (renewal_checked (type_in (type_numbered type)) number count seed)
+    unless Err (type_checked (type_numbered type))
+    (unless Err (renewal_checked (type_in (type_numbered type)) number count seed)
     (written_of room (text_by_numbers type password number count seed new)))

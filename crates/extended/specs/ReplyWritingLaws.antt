@@ -1,15 +1,13 @@
 -- Laws of what the writer of extended replies writes: how long the parts are, and what values that are good say.
-use Rattle.std.specs.Prelude.{ℕ, ◌+◌, ◌≤◌, ◌≡◌, Bool, true, false, cond, ◌&&◌, List, [], ◌∷◌, leb, length}
+use Rattle.std.specs.Prelude.{ℕ, ◌+◌, ◌≤◌, ◌≡◌, Bool, true, false, cond, ◌&&◌, List, [], ◌∷◌, leb, length, Some, Ok}
 use Rattle.std.proofs.Common.{ap, arith, length-append, leb-true}
 use Rattle.refusal.specs.declared.Refusal.{Refusal}
-use Rattle.refusal.specs.declared.Checked.{Checked}
 use Rattle.refusal.specs.Laws.{must_good, each_good}
 use Rattle.text.specs.Tests.{both, either}
 use Rattle.text.specs.Quoted.{codes}
 use Rattle.text.specs.Counts.{width_of}
 use Rattle.text.specs.CountLaws.{length_decimal}
 use Rattle.password.specs.declared.algorithm.Algorithm.{Algorithm}
-use Rattle.password.specs.declared.algorithm.Named.{Named}
 use Rattle.password.specs.Algorithm.{algorithm_name, numbered, algorithm_checked, algorithm_in}
 use Rattle.password.specs.AlgorithmLaws.{checked_known}
 use Rattle.password.specs.PhraseAndSeed.{seed_checked}
@@ -67,8 +65,8 @@ length_tail kind algorithm count seed new = simp length-append (omega (arith, le
 
 -- ---- values that are good: a count of at most 9,999, an algorithm that there is, and a good seed
 
-pub good_values : (number count : ℕ) (seed : List ℕ) → new_checked number count seed ≡ Checked.Good
-    → (count ≤ 9999) × (numbered number ≡ Named.Is (algorithm_in (numbered number))) × (seed_checked seed ≡ Checked.Good)
+pub good_values : (number count : ℕ) (seed : List ℕ) → new_checked number count seed ≡ Ok tt
+    → (count ≤ 9999) × (numbered number ≡ Some (algorithm_in (numbered number))) × (seed_checked seed ≡ Ok tt)
 unfolding new_checked
 good_values number count seed e =
     let each = each_good (count_within count ∷ algorithm_checked (numbered number) ∷ seed_checked seed ∷ []) e in

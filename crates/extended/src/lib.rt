@@ -9,5 +9,7 @@ mod parts;
 mod parameters;
 // What a text is read to, and the seed of a renewal as the part of its text.
 pub mod reply_texts;
+// A renewal's new values and password, to be written.
+mod renewal;
 // An extended reply written, and the number that its writer takes for a type.
 pub mod reply_writer;

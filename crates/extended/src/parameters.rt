@@ -1,15 +1,17 @@
 // The parameters of an `init` reply: algorithm, count and seed, as in `md5 499 ke1235`.
-ghost use Rattle.std.specs.Prelude.{◌≡◌, ◌+◌, ◌≤◌, length};
+ghost use Rattle.std.specs.Prelude.{◌≡◌, ℕ, ◌+◌, ◌<◌, ◌≤◌, true, false, length, slice_index, EachIndex, MatchOption};
+ghost use Rattle.text.specs.Kinds.{is_white};
 ghost use Rattle.password.specs.Algorithm.{named};
 ghost use Rattle.extended.specs.Parameters as spec;
 
-use password::algorithm::{Named, number_of};
+use password::algorithm::number_of;
 use password::algorithm_names::read_name;
-use text::counts::{Counted, read_count};
+use text::counts::read_count;
 use text::kinds::{Kind, is_white};
 use text::scan::{run, stretch_at};
 
-// The algorithm's number, the count, and where in the part the seed stands. What isn't an algorithm, or isn't a count, is 0.
+// The algorithm's number, the count, and where in the part the seed stands. What isn't an algorithm, or isn't a count, is 0:
+// numbers, since they are handed to C, and refused where they are offered.
 #[derive(Clone, Copy)]
 pub struct Parameters {
     pub algorithm: u32,
@@ -27,38 +29,37 @@ fn next_word(part: &[u8], at: usize) -> usize
     end + run(part, end, Kind::White)
 }
 
-// The number of the algorithm with that name; 0 where there is none.
+// The number of the algorithm with that name; 0 where there is none, as C is told: reading refuses nothing of a renewal.
 fn algorithm_number(name: &[u8]) -> u32
     ensures { result ≡ spec.name_number (named name.now) }
 {
-    match read_name(name) {
-        Named::Is(algorithm) => number_of(algorithm),
-        Named::Unknown => 0,
-    }
+    read_name(name).map_or(0, number_of)
 }
 
-// The count that a word is; 0 where it is none.
+// The count that a word is; 0 where it is none, likewise.
 fn count_in(word: &[u8]) -> u16
     ensures { result ≡ spec.count_in word.now }
 {
-    match read_count(word) {
-        Counted::Is(count) => count as u16,
-        Counted::Unread => 0,
-    }
+    read_count(word).unwrap_or(0) as u16
 }
 
-// How many bytes of a text there are up to its last that isn't white space.
+// Where the last byte of a text stands that isn't white space.
+fn last_solid(s: &[u8]) -> Option<usize>
+    ensures { MatchOption result (EachIndex s.now (λ k. is_white (slice_index s.now k) ≡ true))
+        (λ i. (i < length s.now) × (is_white (slice_index s.now i) ≡ false)
+        × ((k : ℕ) → i < k → k < length s.now → is_white (slice_index s.now k) ≡ true)) }
+{
+    s.iter().rposition(|b| !is_white(*b))
+}
+
+// How many bytes of a text there are up to that byte.
 fn trimmed(s: &[u8]) -> usize
     ensures { (result ≡ spec.trimmed s.now) × (result ≤ length s.now) }
 {
-    let mut n = s.len();
-    while 0 < n {
-        if !is_white(s[n - 1]) {
-            return n;
-        }
-        n -= 1;
+    match last_solid(s) {
+        Some(last) => last + 1,
+        None => 0,
     }
-    0
 }
 
 pub fn values_in(part: &[u8]) -> Parameters

@@ -11,20 +11,7 @@ use text::scan::stretch_at;
 pub fn colons(text: &[u8]) -> usize
     ensures { result ≡ few_colons text.now }
 {
-    let mut n = 0;
-    let mut i = 0;
-    while i < text.len() {
-        let b = text[i];
-        i += 1;
-        if b != b':' {
-            continue;
-        }
-        if n == 3 {
-            return 4;
-        }
-        n += 1;
-    }
-    n
+    text.iter().filter(|b| **b == b':').take(4).count()
 }
 
 // The part that starts at a place; nothing past the end.

@@ -1,13 +1,11 @@
 // Reading the text of a reply, plain or extended, to the password that it says or to a renewal. No table is looked at. Document 02, R-6 and R-7.
 ghost use Rattle.std.specs.Prelude.{◌≡◌, ◌+◌, ◌≤◌, length};
-ghost use Rattle.refusal.specs.Numbers.{password_in};
 ghost use Rattle.extended.specs.ReplyTexts as spec;
 ghost use Rattle.extended.specs.ReplyTexts.{Said};
-ghost use Rattle.extended.specs.Inside as inside;
 
 use crate::parameters::{Parameters, values_in};
 use crate::parts::{after, colons, part};
-use crate::reply_types::{ReplyType, Typed, is_hex, is_init, read_type};
+use crate::reply_types::{ReplyType, read_type};
 use hex_text::read_hex;
 use refusal::{Reading, Refusal};
 use reply::read_six;
@@ -25,14 +23,13 @@ pub enum ReplyText {
         new: u64,
         present: u64,
     },
-    Refused(Refusal),
 }
 
 // The password in a part of that type.
 fn read_part(kind: ReplyType, part: &[u8]) -> Reading
     ensures { result ≡ spec.password_by kind part.now }
 {
-    if is_hex(kind) {
+    if kind.is_hex() {
         return read_hex(part);
     }
     read_six(part)
@@ -42,10 +39,10 @@ fn read_part(kind: ReplyType, part: &[u8]) -> Reading
 fn colons_of(kind: ReplyType) -> usize
     ensures { result ≡ spec.colons_of kind }
 {
-    if is_init(kind) { 3 } else { 1 }
+    if kind.is_init() { 3 } else { 1 }
 }
 
-// Where the seed stands in a text whose parameters start at a place; where there is none, the start.
+// Where the seed stands in a text whose parameters start at a place; where there is none, the start, as the definition has it: C is handed the number.
 fn seed_start(at: usize, values: Parameters) -> usize
     requires { (at ≤ 259) × (values.start ≤ 256) }
     ensures { result ≡ spec.seed_start at values }
@@ -57,73 +54,36 @@ fn seed_start(at: usize, values: Parameters) -> usize
 }
 
 // A login with the password that was read, or why it wasn't.
-fn login_of(present: Reading) -> ReplyText
+fn login_of(present: Reading) -> Result<ReplyText, Refusal>
     ensures { result ≡ spec.read_to (Said.Login present) }
 {
-    match present {
-        Reading::Password(password) => ReplyText::Login(password),
-        Reading::Refused(why) => ReplyText::Refused(why),
-    }
+    Ok(ReplyText::Login(present?))
 }
 
-// Whether a password couldn't be read.
-fn is_unread(reading: Reading) -> bool
-    ensures { result ≡ inside.unread reading }
-{
-    match reading {
-        Reading::Password(_) => false,
-        Reading::Refused(_) => true,
-    }
-}
-
-// Why it couldn't; 33 where it could, which nobody asks.
-fn why_unread(reading: Reading) -> Refusal
-    ensures { result ≡ inside.why_unread reading }
-{
-    match reading {
-        Reading::Password(_) => Refusal::ReplyUnread,
-        Reading::Refused(why) => why,
-    }
-}
-
-// The password that was read, and 0 where none was.
-fn password_in(reading: Reading) -> u64
-    ensures { result ≡ password_in reading }
-{
-    match reading {
-        Reading::Password(password) => password,
-        Reading::Refused(_) => 0,
-    }
-}
-
-// A renewal with the values that start at a place: "31 to 33 for the new password and after it for the present one", and nothing for the values. Which of
-// the two is refused first stands in two lines.
-fn renewal_of(at: usize, values: Parameters, new: Reading, present: Reading) -> ReplyText
+// A renewal with the values that start at a place: "31 to 33 for the new password and after it for the present one", and nothing for the values.
+fn renewal_of(
+    at: usize,
+    values: Parameters,
+    new: Reading,
+    present: Reading,
+) -> Result<ReplyText, Refusal>
     requires { (at ≤ 259) × (values.start ≤ 256) }
     ensures { result ≡ spec.read_to (spec.renewal_said at values new present) }
 {
-    let algorithm = values.algorithm;
-    let count = values.count;
-    let first = new;
-    let second = present;
-    if is_unread(first) {
-        return ReplyText::Refused(why_unread(first));
-    }
-    if is_unread(second) {
-        return ReplyText::Refused(why_unread(second));
-    }
-    ReplyText::Renewal {
-        algorithm,
-        count,
+    let new = new?;
+    let present = present?;
+    Ok(ReplyText::Renewal {
+        algorithm: values.algorithm,
+        count: values.count,
         start: seed_start(at, values),
         len: values.len,
-        new: password_in(new),
-        present: password_in(present),
-    }
+        new,
+        present,
+    })
 }
 
 // What a renewal is read to.
-fn renewal_in(text: &[u8], kind: ReplyType) -> ReplyText
+fn renewal_in(text: &[u8], kind: ReplyType) -> Result<ReplyText, Refusal>
     requires { length text.now ≤ 256 }
     ensures { result ≡ spec.read_to (spec.renewal_in kind text.now) }
 {
@@ -137,11 +97,11 @@ fn renewal_in(text: &[u8], kind: ReplyType) -> ReplyText
 }
 
 // What a text of that type is read to.
-fn typed_in(text: &[u8], kind: ReplyType) -> ReplyText
+fn typed_in(text: &[u8], kind: ReplyType) -> Result<ReplyText, Refusal>
     requires { length text.now ≤ 256 }
     ensures { result ≡ spec.read_to (spec.typed_in kind text.now) }
 {
-    if is_init(kind) {
+    if kind.is_init() {
         return renewal_in(text, kind);
     }
     login_of(read_part(kind, part(text, after(text, 0))))
@@ -149,26 +109,25 @@ fn typed_in(text: &[u8], kind: ReplyType) -> ReplyText
 
 // What a text is read to. Over 256 bytes every text is 30, a plain one from 129 on, so that no more are looked at. One without a colon is plain; one with
 // a colon is checked for 34 and 35.
-pub fn read(text: &[u8]) -> ReplyText
+pub fn read(text: &[u8]) -> Result<ReplyText, Refusal>
     ensures { result ≡ spec.reply_text_of text.now }
 {
     if 256 < text.len() {
-        return ReplyText::Refused(Refusal::ReplyLong);
+        return Err(Refusal::ReplyLong);
     }
     let found = colons(text);
     if found == 0 {
         return login_of(reply::read(text));
     }
-    let Typed::Is(kind) = read_type(part(text, 0)) else {
-        return ReplyText::Refused(Refusal::TypeUnknown);
-    };
+    let kind = read_type(part(text, 0)).ok_or(Refusal::TypeUnknown)?;
     if found != colons_of(kind) {
-        return ReplyText::Refused(Refusal::PartsWrong);
+        return Err(Refusal::PartsWrong);
     }
     typed_in(text, kind)
 }
 
 // The seed of a renewal, as the part of its text where it stands. What would lie past the text's end isn't there.
+// Tested by hand: the library's `get` doesn't say where the part lies, which is promised here.
 pub fn seed_part(text: &[u8], start: usize, len: usize) -> &[u8]
     ensures { (result.now ≡ spec.seed_part text.now start len) × (result.ref_ptr.0 ≡ text.entry.ref_ptr.0)
         × (result.ref_ptr.1 ≡ spec.seed_place text.now start + text.entry.ref_ptr.1) }

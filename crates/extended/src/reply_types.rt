@@ -13,73 +13,71 @@ pub enum ReplyType {
     InitWord,
 }
 
-// A type, if it is one of the four.
-#[derive(Clone, Copy)]
-pub enum Typed {
-    Is(ReplyType),
-    Unknown,
+const TYPES: [ReplyType; 4] = [
+    ReplyType::Hex,
+    ReplyType::Word,
+    ReplyType::InitHex,
+    ReplyType::InitWord,
+];
+
+impl ReplyType {
+    pub fn name(self) -> &'static [u8]
+        ensures { result.now ≡ spec.type_name self }
+    {
+        match self {
+            ReplyType::Hex => b"hex",
+            ReplyType::Word => b"word",
+            ReplyType::InitHex => b"init-hex",
+            ReplyType::InitWord => b"init-word",
+        }
+    }
+
+    pub fn number(self) -> u32
+        ensures { result ≡ spec.type_number self }
+    {
+        match self {
+            ReplyType::Hex => 1,
+            ReplyType::Word => 2,
+            ReplyType::InitHex => 3,
+            ReplyType::InitWord => 4,
+        }
+    }
+
+    // Whether it is a renewal.
+    pub fn is_init(self) -> bool
+        ensures { result ≡ spec.is_init self }
+    {
+        matches!(self, ReplyType::InitHex | ReplyType::InitWord)
+    }
+
+    // Whether passwords are given in hex; in words else.
+    pub fn is_hex(self) -> bool
+        ensures { result ≡ spec.is_hex self }
+    {
+        matches!(self, ReplyType::Hex | ReplyType::InitHex)
+    }
 }
 
-pub const HEX: [u8; 3] = [b'h', b'e', b'x'];
-
-pub const WORD: [u8; 4] = [b'w', b'o', b'r', b'd'];
-
-pub const INIT_HEX: [u8; 8] = [b'i', b'n', b'i', b't', b'-', b'h', b'e', b'x'];
-
-pub const INIT_WORD: [u8; 9] = [b'i', b'n', b'i', b't', b'-', b'w', b'o', b'r', b'd'];
-
-// The type with that name, in lower case and whole.
-pub fn read_type(name: &[u8]) -> Typed
+// The type with that name, in lower case and whole, if it is one.
+pub fn read_type(name: &[u8]) -> Option<ReplyType>
     ensures { result ≡ spec.typed name.now }
 {
-    if same(name, &HEX) {
-        return Typed::Is(ReplyType::Hex);
+    for kind in TYPES {
+        if same(name, kind.name()) {
+            return Some(kind);
+        }
     }
-    if same(name, &WORD) {
-        return Typed::Is(ReplyType::Word);
-    }
-    if same(name, &INIT_HEX) {
-        return Typed::Is(ReplyType::InitHex);
-    }
-    if same(name, &INIT_WORD) {
-        return Typed::Is(ReplyType::InitWord);
-    }
-    Typed::Unknown
+    None
 }
 
-// The type of that number.
-pub fn type_numbered(number: u32) -> Typed
+// The type of that number, if it is one.
+pub fn type_numbered(number: u32) -> Option<ReplyType>
     ensures { result ≡ spec.type_numbered number }
 {
-    match number {
-        1 => Typed::Is(ReplyType::Hex),
-        2 => Typed::Is(ReplyType::Word),
-        3 => Typed::Is(ReplyType::InitHex),
-        4 => Typed::Is(ReplyType::InitWord),
-        _ => Typed::Unknown,
+    for kind in TYPES {
+        if number == kind.number() {
+            return Some(kind);
+        }
     }
-}
-
-// Whether it is a renewal.
-pub fn is_init(kind: ReplyType) -> bool
-    ensures { result ≡ spec.is_init kind }
-{
-    match kind {
-        ReplyType::Hex => false,
-        ReplyType::Word => false,
-        ReplyType::InitHex => true,
-        ReplyType::InitWord => true,
-    }
-}
-
-// Whether passwords are given in hex; in words else.
-pub fn is_hex(kind: ReplyType) -> bool
-    ensures { result ≡ spec.is_hex kind }
-{
-    match kind {
-        ReplyType::Hex => true,
-        ReplyType::Word => false,
-        ReplyType::InitHex => true,
-        ReplyType::InitWord => false,
-    }
+    None
 }

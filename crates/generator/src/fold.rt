@@ -1,5 +1,5 @@
 // The fold of a digest: two words, each written low-order byte first, as one number.
-ghost use Rattle.std.specs.Prelude.{◌≡◌, ◌++◌};
+ghost use Rattle.std.specs.Prelude.{◌≡◌, ◌++◌, ℕ};
 ghost use Rattle.digests.specs.declared.Order.{Order};
 ghost use Rattle.digests.specs.Words32.{bytes4};
 ghost use Rattle.digests.specs.Md5.{output};
@@ -21,16 +21,28 @@ fn number_of_words(x: u32, y: u32) -> u64
     read_high(x) * 4294967296 + read_high(y)
 }
 
-// MD5's digest in the registers, folded: bytes 0 to 7 with bytes 8 to 15 are A with C and B with D.
-pub fn folded_md5(q: State) -> u64
-    ensures { result ≡ spec.number_of (spec.fold (output q)) }
-{
-    number_of_words(q.a ^ q.c, q.b ^ q.d)
+// What is kept of a message, folded to a password.
+pub trait Folded: Copy {
+    ghost folded: { Self → ℕ };
+
+    fn folded(self) -> u64
+        ensures { result ≡ folded self };
 }
 
-// SHA-1's five words, folded.
-pub fn folded_sha1(h: FiveWords) -> u64
-    ensures { result ≡ spec.number_of (spec.fold_words h) }
-{
-    number_of_words(h.a ^ h.c ^ h.e, h.b ^ h.d)
+// MD5's registers: of the digest's bytes, 0 to 7 with 8 to 15 are A with C and B with D.
+impl Folded for State {
+    ghost folded = { λ q. spec.number_of (spec.fold (output q)) };
+
+    fn folded(self) -> u64 {
+        number_of_words(self.a ^ self.c, self.b ^ self.d)
+    }
+}
+
+// SHA-1's five words.
+impl Folded for FiveWords {
+    ghost folded = { λ h. spec.number_of (spec.fold_words h) };
+
+    fn folded(self) -> u64 {
+        number_of_words(self.a ^ self.c ^ self.e, self.b ^ self.d)
+    }
 }

@@ -8,28 +8,29 @@ ghost use Rattle.password.specs.Password as spec;
 ghost use Rattle.generator.specs.Inside.{chained};
 
 use crate::chain::step;
-use crate::fold::{folded_md5, folded_sha1};
-use password::algorithm::{Algorithm, Named, numbered};
+use crate::fold::Folded;
+use password::algorithm::{Algorithm, numbered};
 use password::phrase_and_seed::{check_phrase, check_seed};
-use refusal::{Checked, Reading, Refusal};
+use refusal::{Reading, Refusal};
 
 // The fold of a digest.
 mod fold;
 // One step of the chain.
 pub mod chain;
 
-// The folded hash of a message.
+// The folded hash of a message. It chooses by the algorithm as `step` does for eight bytes: one function for both would be generic over
+// the message too, and no shorter.
 fn hash(algorithm: Algorithm, m: &[u8]) -> u64
-    requires { length m.now ≤ 4096 }
     ensures { result ≡ spec.hash algorithm m.now }
 {
     match algorithm {
-        Algorithm::Md5 => folded_md5(md5_hash::compress::registers(m)),
-        Algorithm::Sha1 => folded_sha1(sha1_hash::compress::hash_value(m)),
+        Algorithm::Md5 => md5_hash::compress::registers(m).folded(),
+        Algorithm::Sha1 => sha1_hash::compress::hash_value(m).folded(),
     }
 }
 
-// What is hashed at count 0: the seed in lower case, followed by the pass-phrase.
+// What is hashed at count 0: the seed in lower case, followed by the pass-phrase. A lent buffer and a length, as with every writer of
+// `text`: memory is fixed.
 fn put_message(buf: &mut [u8], phrase: &[u8], seed: &[u8]) -> usize
     requires { length seed.now + length phrase.now ≤ length buf.old }
     ensures { Put (map lower_of seed.now ++ phrase.now) buf.old buf.new result }
@@ -53,10 +54,8 @@ fn steps(algorithm: Algorithm, p: u64, n: u32) -> u64
     ensures { result ≡ chained algorithm n p }
 {
     let mut x = p;
-    let mut k = 0;
-    while k < n {
+    for _ in 0..n {
         x = step(algorithm, x);
-        k += 1;
     }
     x
 }
@@ -65,24 +64,18 @@ fn steps(algorithm: Algorithm, p: u64, n: u32) -> u64
 pub fn generate_by(algorithm: Algorithm, phrase: &[u8], seed: &[u8], count: u32) -> Reading
     ensures { result ≡ spec.generated_by algorithm phrase.now seed.now count }
 {
-    if let Checked::Refused(why) = check_phrase(phrase) {
-        return Reading::Refused(why);
-    }
-    if let Checked::Refused(why) = check_seed(seed) {
-        return Reading::Refused(why);
-    }
+    check_phrase(phrase)?;
+    check_seed(seed)?;
     if 9999 < count {
-        return Reading::Refused(Refusal::CountHigh);
+        return Err(Refusal::CountHigh);
     }
-    Reading::Password(steps(algorithm, first(algorithm, phrase, seed), count))
+    Ok(steps(algorithm, first(algorithm, phrase, seed), count))
 }
 
 // The same by the algorithm's number: 21 before the other faults.
 pub fn generate(algorithm: u32, phrase: &[u8], seed: &[u8], count: u32) -> Reading
     ensures { result ≡ spec.generated algorithm phrase.now seed.now count }
 {
-    let Named::Is(known) = numbered(algorithm) else {
-        return Reading::Refused(Refusal::AlgorithmUnknown);
-    };
+    let known = numbered(algorithm).ok_or(Refusal::AlgorithmUnknown)?;
     generate_by(known, phrase, seed, count)
 }

@@ -1,6 +1,6 @@
 -- In a port's turn the challenge is written and read, the generator answers it, and what it gives is accepted, from a text or as raw bytes, at once or
 -- later in the turn.
-use Rattle.std.specs.Prelude.{ℕ, zero, suc, ◌+◌, ◌-◌, ◌^◌, ◌≤◌, ◌<◌, ◌≡◌, Bool, true, false, cond, ◌||◌, leb, get_or, set, drop}
+use Rattle.std.specs.Prelude.{ℕ, zero, suc, ◌+◌, ◌-◌, ◌^◌, ◌≤◌, ◌<◌, ◌≡◌, Bool, true, false, cond, ◌||◌, leb, get_or, set, drop, Ok, Result}
 use native.Mathlib.Omega.{arith}
 use Rattle.std.proofs.Math.Path.{refl, ap, subst}
 use Rattle.std.proofs.Common.{sym, ap₂, ◌∙◌, true≢false}
@@ -8,8 +8,7 @@ use mathlib.Core.List.{List, [], ◌∷◌, ◌++◌, map}
 use borrow.Author.Tests.{le-leb, le-ltb, lt-leb, leb-true}
 use Rattle.std.proofs.Math.ListN.{length, take}
 use Rattle.std.proofs.Math.Seq.{take_at}
-use Rattle.refusal.specs.declared.Checked.{Checked}
-use Rattle.refusal.specs.declared.Reading.{Reading}
+use Rattle.refusal.specs.Answers.{Reading}
 use Rattle.refusal.specs.Each.{Each, each_weaker}
 use Rattle.text.specs.Kinds.{is_upper, is_lower, is_letter, is_digit, lower_of}
 use Rattle.text.specs.Tests.{every, cases, both, second_fails}
@@ -22,20 +21,19 @@ use Rattle.password.specs.Bounds.{password_bound}
 use Rattle.password.specs.Password.{bytes_of, number_of, hash, password, generated}
 use Rattle.password.specs.EightBytesLaws.{number_bytes}
 use Rattle.text.specs.Counts.{width_of}
-use Rattle.challenge.specs.declared.reading.Challenge.{Challenge}
-use Rattle.challenge.specs.Challenges.{challenge_of, seed_of, challenge_written_by}
+use Rattle.challenge.specs.Challenges.{challenge_of, seed_of, challenge_written_by, a_challenge}
 use Rattle.readback.specs.ChallengeRead.{written_read, written_seed_read}
 use Rattle.hex_text.specs.Hex.{hex_of}
 use Rattle.sixwords.specs.Spelling.{words_of}
 use Rattle.reply.specs.Reply.{reading_of}
 use Rattle.extended.specs.declared.reply_types.ReplyType.{ReplyType}
 use Rattle.extended.specs.declared.reply_texts.ReplyText.{ReplyText}
-use Rattle.extended.specs.ReplyTexts.{with_read, reply_text_of}
+use Rattle.extended.specs.ReplyTexts.{with_read, reply_text_of, a_login}
 use Rattle.extended.specs.ReplyWriting.{renewal_checked, extended_text}
 use Rattle.readback.specs.ReplyRead.{hex_written_read, words_written_read}
 use Rattle.readback.specs.ExtendedRead.{extended_written_read}
 use Rattle.readback.specs.ExtendedMeaning.{plain_read}
-use Rattle.table.specs.declared.Replied.{Replied}
+use Rattle.table.specs.Answers.{Replied}
 use Rattle.accounts.specs.Rooms.{Room}
 use Rattle.line.specs.Line.{left}
 use Rattle.table.specs.Table.{State, Held, free_room, place_of, account_of, stands_at, own_room, own_account, lined}
@@ -57,6 +55,7 @@ use Rattle.grounds.specs.Keeps.{account_good, made_run, turn_there, turn_account
 use Rattle.grounds.specs.Owned.{turn_keeps, challenge_kept}
 use Rattle.grounds.specs.Replies.{Taken, accepted_account, turn_checked_lem, offer-accepted, taken_renews}
 use Rattle.grounds.specs.PlainTexts.{read_plain}
+use Rattle.refusal.specs.declared.Refusal.{Refusal}
 
 -- ---- seeds as they are kept
 
@@ -84,18 +83,18 @@ kept_seed (b ∷ s) e =
     let rest = kept_seed s halves.1 in
     (ap₂ (λ (c : ℕ) (t : List ℕ). c ∷ t) first.0 rest.0, rw first.1 rest.1)
 
-pub seed_checked_lem : (seed : List ℕ) → SeedGood seed → seed_checked seed ≡ Checked.Good
+pub seed_checked_lem : (seed : List ℕ) → SeedGood seed → seed_checked seed ≡ Ok tt
 seed_checked_lem seed good = rw (le-leb 1 (length seed) good.from, le-leb (length seed) 16 good.to, (kept_seed seed good.kept).1)
 
 -- ---- the four texts
 
 -- The text is read to this password, to log in.
 abbrev ReadsLogin : ℕ → List ℕ → Type 0
-ReadsLogin p text = reply_text_of text ≡ ReplyText.Login p
+ReadsLogin p text = reply_text_of text ≡ a_login p
 
 -- A plain text that reads as it does.
-plain_reads : (p : ℕ) (text : List ℕ) → reading_of text ≡ Reading.Password p → ReadsLogin p text
-plain_reads p text e = plain_read text (read_plain text p e) ∙ ap (λ (r : Reading). with_read r ReplyText.Login) e
+plain_reads : (p : ℕ) (text : List ℕ) → reading_of text ≡ Ok p → ReadsLogin p text
+plain_reads p text e = plain_read text (read_plain text p e) ∙ ap (λ (r : Reading). with_read r a_login) e
 
 replies_read : (p : ℕ) → p < 2 ^ 64 → Each (ReadsLogin p) (replies_of p)
 unfolding extended_text renewal_checked
@@ -151,7 +150,7 @@ seed_place account = 6 + length (algorithm_name account.algorithm) + width_of (a
 read_accepted : (p i count w : ℕ) (s : State) → Accepts i count w s (offer p w s) → (text : List ℕ) → ReadsLogin w text
     → Accepts i count w s (read_and_offered p text s)
 unfolding read_and_offered
-read_accepted p i count w s accepts text e = subst (λ (r : ReplyText). Accepts i count w s (offered_as p text r s)) (sym e) accepts
+read_accepted p i count w s accepts text e = subst (λ (r : Result ReplyText Refusal). Accepts i count w s (offered_as p text r s)) (sym e) accepts
 
 -- The port that has the turn for the account i: where it stands, and what it waits for.
 module _ (p i : ℕ) (phrase : List ℕ) (s : State) (m : Made s) (t : HasTurn p i s) where
@@ -172,7 +171,7 @@ module _ (p i : ℕ) (phrase : List ℕ) (s : State) (m : Made s) (t : HasTurn p
 
   -- The challenge reads back, with the mark, and its seed is the account's.
   own_challenge_read : (let account = own_account p s in
-      (challenge_of (challenge_for p s) ≡ Challenge.Read account.algorithm (account.count - 1) (seed_place account) (length account.seed)
+      (challenge_of (challenge_for p s) ≡ a_challenge account.algorithm (account.count - 1) (seed_place account) (length account.seed)
       (length (challenge_for p s)) true)
       × (seed_of (challenge_for p s) ≡ account.seed))
   own_challenge_read =
@@ -185,7 +184,7 @@ module _ (p i : ℕ) (phrase : List ℕ) (s : State) (m : Made s) (t : HasTurn p
       )
 
   -- The password one count down is accepted.
-  own_accepted : turn_checked p s ≡ Checked.Good → (own_account p s).password ≡ password_of phrase (own_account p s) (own_account p s).count →
+  own_accepted : turn_checked p s ≡ Ok tt → (own_account p s).password ≡ password_of phrase (own_account p s) (own_account p s).count →
       let w = password_of phrase (own_account p s) ((own_account p s).count - 1) in
       Accepts i ((own_account p s).count - 1) w s (offer p w s)
   own_accepted checked stored =
@@ -209,7 +208,7 @@ module _ (p i : ℕ) (phrase : List ℕ) (s : State) (m : Made s) (t : HasTurn p
             });
       }
 
-  turn_day : (buffer : List ℕ) → 1 < (own_account p s).count → phrase_checked phrase ≡ Checked.Good
+  turn_day : (buffer : List ℕ) → 1 < (own_account p s).count → phrase_checked phrase ≡ Ok tt
       → (own_account p s).password ≡ password_of phrase (own_account p s) (own_account p s).count
       → length (challenge_for p s) ≤ length buffer → Day p i phrase buffer s s
   unfolding challenge challenge_written_by
@@ -255,15 +254,15 @@ module _ (p i : ℕ) (phrase : List ℕ) (s : State) (m : Made s) (t : HasTurn p
 -- The challenge for the account i.
 pub challenge_read_marked : (p i : ℕ) (s : State) → Made s → HasTurn p i s →
     let account = account_of i s in
-    (challenge_of (challenge_for p s) ≡ Challenge.Read account.algorithm (account.count - 1) (seed_place account) (length account.seed)
+    (challenge_of (challenge_for p s) ≡ a_challenge account.algorithm (account.count - 1) (seed_place account) (length account.seed)
     (length (challenge_for p s)) true)
     × (seed_of (challenge_for p s) ≡ account.seed)
 challenge_read_marked p i s m t =
-    subst (λ (account : Room). (challenge_of (challenge_for p s) ≡ Challenge.Read account.algorithm (account.count - 1) (seed_place account)
+    subst (λ (account : Room). (challenge_of (challenge_for p s) ≡ a_challenge account.algorithm (account.count - 1) (seed_place account)
     (length account.seed) (length (challenge_for p s)) true) × (seed_of (challenge_for p s) ≡ account.seed))
     (turn_account p i s m t) (own_challenge_read p i [] s m t)
 
-pub day : (p i : ℕ) (phrase buffer : List ℕ) (s : State) → Made s → HasTurn p i s → 1 < (account_of i s).count → phrase_checked phrase ≡ Checked.Good
+pub day : (p i : ℕ) (phrase buffer : List ℕ) (s : State) → Made s → HasTurn p i s → 1 < (account_of i s).count → phrase_checked phrase ≡ Ok tt
     → (account_of i s).password ≡ password_of phrase (account_of i s) (account_of i s).count
     → length (challenge_for p s) ≤ length buffer → Day p i phrase buffer s s
 day p i phrase buffer s m t unused long stored room =
@@ -305,7 +304,7 @@ day_then p i phrase buffer s t same now next =
       raw_accepted = moved (λ (n w : ℕ). Accepts i n w t (offer p (number_of (bytes_of w)) t)) counts one next.raw_accepted;
     }
 
-pub day_later : (p i : ℕ) (phrase buffer : List ℕ) (s : State) → Made s → HasTurn p i s → 1 < (account_of i s).count → phrase_checked phrase ≡ Checked.Good
+pub day_later : (p i : ℕ) (phrase buffer : List ℕ) (s : State) → Made s → HasTurn p i s → 1 < (account_of i s).count → phrase_checked phrase ≡ Ok tt
     → (account_of i s).password ≡ password_of phrase (account_of i s) (account_of i s).count
     → length (challenge_for p s) ≤ length buffer
     → (during : List Call) → every (quiet p i) during ≡ true → HasTurn p i (run during s) → Day p i phrase buffer s (run during s)

@@ -1,10 +1,10 @@
 -- What the program `card` prints goes by its rows.
-use Rattle.std.specs.Prelude.{ℕ, zero, suc, ◌-◌, ◌≤◌, ◌≡◌, ◌↔◌, Bool, true, false, cond, List, [], ◌∷◌, ◌++◌, ltb, length, get_or}
+use Rattle.std.specs.Prelude.{ℕ, zero, suc, ◌-◌, ◌≤◌, ◌≡◌, ◌↔◌, Bool, true, false, cond, List, [], ◌∷◌, ◌++◌, ltb, length, get_or, Ok, Err}
 use Rattle.std.proofs.Common.{arith, sym, ◌∙◌, true≢false}
 use Rattle.std.proofs.Math.Path.{refl, ap, subst}
 use Rattle.std.proofs.lemmas.List.{append_cancel_left, append_cancel_right}
 use Rattle.refusal.specs.declared.Refusal.{Refusal}
-use Rattle.refusal.specs.declared.Checked.{Checked}
+use Rattle.refusal.specs.Answers.{Checked}
 use Rattle.text.specs.Kinds.{is_digit}
 use Rattle.text.specs.Tests.{every, both}
 use Rattle.text.specs.Digits.{number_of}
@@ -59,12 +59,12 @@ module _ (input : List ℕ) where
   -- The program's checks.
   abbrev input_checked : Checked
   input_checked =
-      cond (ltb 256 (length input)) (Checked.Refused Refusal.InputLong)
+      cond (ltb 256 (length input)) (Err Refusal.InputLong)
       (card_checked (first_line input) (kept_line (past_line input)) (lines_asked (first_line (past_line (past_line input)))))
 
   input_rows : Follows input_checked (program_rows input)
   input_rows =
-      otherwise (λ (c : Checked). c) Checked.Refused (λ why. refl) (ltb 256 (length input)) Refusal.InputLong _ _
+      otherwise (λ (c : Checked). c) Err (λ why. refl) (ltb 256 (length input)) Refusal.InputLong _ _
       (card_rows_lem (first_line input) (kept_line (past_line input)) (lines_asked (first_line (past_line (past_line input)))))
 
   answer_printed : answer_of input ≡ printed input_checked (card_asked input)
@@ -75,7 +75,7 @@ module _ (input : List ℕ) where
       rest = card_checked (first_line input) (kept_line (past_line input)) (lines_asked (first_line (past_line (past_line input))))
 
       go : (t : Bool) → cond t (refused_text Refusal.InputLong) (printed rest (card_asked input))
-          ≡ printed (cond t (Checked.Refused Refusal.InputLong) rest) (card_asked input)
+          ≡ printed (cond t (Err Refusal.InputLong) rest) (card_asked input)
       go true = refl
       go false = refl
 
@@ -89,8 +89,8 @@ module _ (input : List ℕ) where
   )
     where
       there : (c : Checked) → input_checked ≡ c → printed c (card_asked input) ≡ refused_with n → FirstHolds n (program_rows input)
-      there Checked.Good g e = absurd (not_card n _ _ _ e)
-      there (Checked.Refused why) g e =
+      there (Ok _) g e = absurd (not_card n _ _ _ e)
+      there (Err why) g e =
           subst (λ (m : ℕ). FirstHolds m (program_rows input)) (one_number (listed_as why) n (number_bounds why).1 h e)
           (refused_first input_checked (program_rows input) input_rows why g)
 
@@ -102,5 +102,5 @@ module _ (input : List ℕ) where
   )
     where
       there : (c : Checked) → input_checked ≡ c → printed c (card_asked input) ≡ card_asked input → NoneHolds (program_rows input)
-      there Checked.Good g e = good_none input_checked (program_rows input) input_rows g
-      there (Checked.Refused why) g e = absurd (not_card (listed_as why) _ _ _ (sym e))
+      there (Ok _) g e = good_none input_checked (program_rows input) input_rows g
+      there (Err why) g e = absurd (not_card (listed_as why) _ _ _ (sym e))

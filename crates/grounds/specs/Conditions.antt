@@ -1,5 +1,6 @@
 -- The conditions of the refusals, in the words of documents 01 and 02: the rows of each function, in the order of its checks.
-use Rattle.std.specs.Prelude.{ℕ, ◌/◌, ◌%◌, ◌≡◌, ◌↔◌, Bool, true, false, cond, not, ◌&&◌, ◌||◌, List, [], ◌∷◌, ◌++◌, map, eqb, leb, ltb, length, take, drop}
+use Rattle.std.specs.Prelude.{ℕ, ◌/◌, ◌%◌, ◌≡◌, ◌↔◌, Bool, true, false, cond, not, ◌&&◌, ◌||◌, List}
+use Rattle.std.specs.Prelude.{[], ◌∷◌, ◌++◌, map, eqb, leb, ltb, length, take, drop, Option, Some, None}
 use Rattle.refusal.specs.Each.{Each}
 use Rattle.text.specs.Kinds.{lower_of}
 use Rattle.text.specs.Tests.{every, same}
@@ -8,7 +9,6 @@ use Rattle.text.specs.Quoted.{codes}
 use Rattle.text.specs.Counts.{is_count, decimal_of}
 use Rattle.password.specs.PhraseAndSeed.{plain}
 use Rattle.password.specs.Password.{bytes_of, hash}
-use Rattle.dictionary.specs.declared.Found.{Found}
 use Rattle.dictionary.specs.Dictionary.{place_of}
 use Rattle.sixwords.specs.Places.{pair_sum, joined}
 use Rattle.hex_text.specs.Hex.{sixteen_digits}
@@ -82,12 +82,12 @@ challenge_rows text =
     ++ (25, not (terminated (drop (end_of text (seed_at text)) text))) ∷ []
 
 -- Where the tokens of a text stand in the dictionary, in either case; whether one does.
-abbrev pub places_found : List ℕ → List Found
+abbrev pub places_found : List ℕ → List (Option ℕ)
 places_found text = map place_of (map upper_text (tokens text))
 
-abbrev pub is_known : Found → Bool
-is_known (Found.At place) = true
-is_known Found.Nothing = false
+abbrev pub is_known : Option ℕ → Bool
+is_known (Some place) = true
+is_known None = false
 
 -- "the sum modulo 4 is put after the 64 bits as two bits": so it is in the 66 bits of these places.
 abbrev pub sum_right : List ℕ → Bool

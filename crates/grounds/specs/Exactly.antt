@@ -1,12 +1,12 @@
 -- The law of rows, and how an answer behind checks goes by theirs.
-use Rattle.std.specs.Prelude.{ℕ, ◌≤◌, ◌<◌, ◌≡◌, Bool, cond, not, ◌&&◌, ◌||◌, eqb, leb, ltb}
+use Rattle.std.specs.Prelude.{ℕ, ◌≤◌, ◌<◌, ◌≡◌, Bool, cond, not, ◌&&◌, ◌||◌, eqb, leb, ltb, Ok, Err}
 use Rattle.std.proofs.Common.{arith, ap₂, ◌∙◌, subst, eqb-true, ltb-true, leb-true}
 use Rattle.std.proofs.Math.Path.{refl, sym, ap}
 use Rattle.std.proofs.Math.Bool.{true, false}
 use Rattle.std.proofs.lemmas.Bool.{false≢true}
 use mathlib.Core.List.{List, [], ◌∷◌, ◌++◌}
 use Rattle.refusal.specs.declared.Refusal.{Refusal}
-use Rattle.refusal.specs.declared.Checked.{Checked}
+use Rattle.refusal.specs.Answers.{Checked}
 use Rattle.refusal.specs.Numbers.{listing_of}
 use Rattle.refusal.specs.Checks.{must, unless}
 use Rattle.refusal.specs.Laws.{must_good}
@@ -161,32 +161,32 @@ Follows check rows = (rest : ℕ) → unless listed_as check rest ≡ first_or r
 
 module _ (check : Checked) (rows : List Row) (f : Follows check rows) where
   -- It refuses exactly where one of them holds, by the first of these, and finds nothing wrong exactly where none does.
-  pub refused_first : (why : Refusal) → check ≡ Checked.Refused why → FirstHolds (listed_as why) rows
+  pub refused_first : (why : Refusal) → check ≡ Err why → FirstHolds (listed_as why) rows
   unfolding Follows
   refused_first why e = first_holds (listed_as why) rows (λ rest. sym (f rest) ∙ ap (λ (c : Checked). unless listed_as c rest) e)
 
-  pub first_refused : (n : ℕ) → FirstHolds n rows → (why : Refusal) × (check ≡ Checked.Refused why) × (listed_as why ≡ n)
+  pub first_refused : (n : ℕ) → FirstHolds n rows → (why : Refusal) × (check ≡ Err why) × (listed_as why ≡ n)
   unfolding Follows
   first_refused n h =
       go check refl
       (λ rest. f rest ∙ ap (λ (l : List Row). first_or l rest) h.parted ∙ holds_first n h.before h.after h.none rest)
     where
       go : (c : Checked) → check ≡ c → ((rest : ℕ) → unless listed_as c rest ≡ n)
-          → (why : Refusal) × (check ≡ Checked.Refused why) × (listed_as why ≡ n)
-      go Checked.Good e g = absurd (omega (arith, g 0, g 1))
-      go (Checked.Refused why) e g = (why, e, g 0)
+          → (why : Refusal) × (check ≡ Err why) × (listed_as why ≡ n)
+      go (Ok _) e g = absurd (omega (arith, g 0, g 1))
+      go (Err why) e g = (why, e, g 0)
 
-  pub good_none : check ≡ Checked.Good → NoneHolds rows
+  pub good_none : check ≡ Ok tt → NoneHolds rows
   unfolding Follows
   good_none e = first_none rows (λ rest. sym (f rest) ∙ ap (λ (c : Checked). unless listed_as c rest) e)
 
-  pub none_good : NoneHolds rows → check ≡ Checked.Good
+  pub none_good : NoneHolds rows → check ≡ Ok tt
   unfolding Follows
   none_good h = go check refl (λ rest. f rest ∙ none_first rows h rest)
     where
-      go : (c : Checked) → check ≡ c → ((rest : ℕ) → unless listed_as c rest ≡ rest) → check ≡ Checked.Good
-      go Checked.Good e g = e
-      go (Checked.Refused why) e g = absurd (omega (arith, g 0, g 1))
+      go : (c : Checked) → check ≡ c → ((rest : ℕ) → unless listed_as c rest ≡ rest) → check ≡ Ok tt
+      go (Ok _) e g = e
+      go (Err why) e g = absurd (omega (arith, g 0, g 1))
 
   -- So an answer with the check's number goes by the rows.
   pub exactly : (number : ℕ) → number ≡ unless listed_as check 0 → Exactly number rows
@@ -196,19 +196,19 @@ module _ (check : Checked) (rows : List Row) (f : Follows check rows) where
   }
     where
       there : (c : Checked) → check ≡ c → number ≡ unless listed_as c 0 → (n : ℕ) → (n ≡ 0 → ⊥) → number ≡ n → FirstHolds n rows
-      there Checked.Good g q n z r = absurd (z (sym r ∙ q))
-      there (Checked.Refused why) g q n z r = subst (λ (m : ℕ). FirstHolds m rows) (sym q ∙ r) (refused_first why g)
+      there (Ok _) g q n z r = absurd (z (sym r ∙ q))
+      there (Err why) g q n z r = subst (λ (m : ℕ). FirstHolds m rows) (sym q ∙ r) (refused_first why g)
 
-      told : (why : Refusal) → check ≡ Checked.Refused why → number ≡ listed_as why
+      told : (why : Refusal) → check ≡ Err why → number ≡ listed_as why
       told why g = e ∙ ap (λ (c : Checked). unless listed_as c 0) g
 
       none : (c : Checked) → check ≡ c → number ≡ unless listed_as c 0 → number ≡ 0 → NoneHolds rows
-      none Checked.Good g q r = good_none g
-      none (Checked.Refused why) g q r = absurd (omega (arith, (number_bounds why).0, sym q ∙ r))
+      none (Ok _) g q r = good_none g
+      none (Err why) g q r = absurd (omega (arith, (number_bounds why).0, sym q ∙ r))
 
 -- ---- checks one after the other
 
-pub no_rows : (check : Checked) → check ≡ Checked.Good → Follows check []
+pub no_rows : (check : Checked) → check ≡ Ok tt → Follows check []
 unfolding Follows
 no_rows check e rest = ap (λ (c : Checked). unless listed_as c rest) e
 
@@ -218,12 +218,12 @@ test_row true holds why e rest = ap (λ (b : Bool). cond b (listed_as why) rest)
 test_row false holds why e rest = ap (λ (b : Bool). cond b (listed_as why) rest) e
 
 -- An answer of any kind behind a check: first the check's rows, and then the answer's.
-module _ {A : Type 0} (checked : A → Checked) (refuse : Refusal → A) (own : (why : Refusal) → checked (refuse why) ≡ Checked.Refused why) where
-  pub behind : (check : Checked) (next : A) (rows more : List Row) → Follows check rows → (check ≡ Checked.Good → Follows (checked next) more)
+module _ {A : Type 0} (checked : A → Checked) (refuse : Refusal → A) (own : (why : Refusal) → checked (refuse why) ≡ Err why) where
+  pub behind : (check : Checked) (next : A) (rows more : List Row) → Follows check rows → (check ≡ Ok tt → Follows (checked next) more)
       → Follows (checked (unless refuse check next)) (rows ++ more)
   unfolding Follows
-  behind Checked.Good next rows more f g rest = g refl rest ∙ f (first_or more rest) ∙ sym (first_append rows more rest)
-  behind (Checked.Refused why) next rows more f g rest =
+  behind (Ok _) next rows more f g rest = g refl rest ∙ f (first_or more rest) ∙ sym (first_append rows more rest)
+  behind (Err why) next rows more f g rest =
       ap (λ (c : Checked). unless listed_as c rest) (own why) ∙ f (first_or more rest) ∙ sym (first_append rows more rest)
 
   -- behind a test
@@ -240,10 +240,10 @@ module _ {A : Type 0} (checked : A → Checked) (refuse : Refusal → A) (own : 
   otherwise false why next more g rest = g rest
 
 -- Checks behind checks.
-pub then_check : (check next : Checked) (rows more : List Row) → Follows check rows → (check ≡ Checked.Good → Follows next more)
-    → Follows (unless Checked.Refused check next) (rows ++ more)
-then_check = behind (λ (c : Checked). c) Checked.Refused (λ why. refl)
+pub then_check : (check next : Checked) (rows more : List Row) → Follows check rows → (check ≡ Ok tt → Follows next more)
+    → Follows (unless Err check next) (rows ++ more)
+then_check = behind (λ (c : Checked). c) Err (λ why. refl)
 
 pub then_test : (t holds : Bool) (why : Refusal) (next : Checked) (more : List Row) → not t ≡ holds → (t ≡ true → Follows next more)
-    → Follows (unless Checked.Refused (must t why) next) ((listed_as why, holds) ∷ more)
-then_test = behind_test (λ (c : Checked). c) Checked.Refused (λ why. refl)
+    → Follows (unless Err (must t why) next) ((listed_as why, holds) ∷ more)
+then_test = behind_test (λ (c : Checked). c) Err (λ why. refl)

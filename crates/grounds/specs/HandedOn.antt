@@ -1,11 +1,10 @@
 -- What the reading of a text refuses it with, and only that, is what a caller that reads and then offers is answered with from 30 to 35.
-use Rattle.std.specs.Prelude.{ℕ, ◌≡◌, ◌↔◌, Bool, true, false, ◌||◌, List, [], ◌∷◌, eqb}
+use Rattle.std.specs.Prelude.{ℕ, ◌≡◌, ◌↔◌, Bool, true, false, ◌||◌, List, [], ◌∷◌, eqb, Ok, Err, Result}
 use Rattle.std.proofs.Math.Path.{refl, ap}
 use Rattle.std.proofs.Common.{sym, ap₂, ◌∙◌, eqb-true}
 use Rattle.std.proofs.lemmas.Bool.{false≢true}
 use Rattle.refusal.specs.declared.Refusal.{Refusal}
-use Rattle.refusal.specs.declared.Checked.{Checked}
-use Rattle.refusal.specs.declared.Reading.{Reading}
+use Rattle.refusal.specs.Answers.{Checked, Reading}
 use Rattle.refusal.specs.Numbers.{listing_of}
 use Rattle.refusal.specs.Checks.{unless}
 use Rattle.text.specs.Tests.{cases}
@@ -14,7 +13,7 @@ use Rattle.extended.specs.declared.reply_texts.ReplyText.{ReplyText}
 use Rattle.extended.specs.ReplyTexts.{reply_text_of, seed_part}
 use Rattle.table.specs.Table.{State, own_account}
 use Rattle.table.specs.Steps.{After, reply_refused, compared}
-use Rattle.table.specs.declared.Replied.{Replied}
+use Rattle.table.specs.Answers.{Replied}
 use Rattle.reached.specs.Calls.{Call, Answer, replied_answer, answer}
 use Rattle.reached.specs.Offered.{Offered, Offers, offer_checked, present_in, next_of, offers}
 use Rattle.reached.specs.OfferedLaws.{call_offers, offer-offers, renewal_offers}
@@ -42,8 +41,8 @@ module _ (why : Refusal) (own : is_in (listing_of why).0 thirties ≡ true) wher
     where
       by : (k : Checked) → Never thirties why own k
           → replied_answer (unless (reply_refused s) k (compared port (present_in what) (next_of what (own_account port s)) s)).answer ≡ Answer.Refused why → ⊥
-      by Checked.Good n e = compared_other why other port (present_in what) (next_of what (own_account port s)) s e
-      by (Checked.Refused v) n e = let same : v ≡ why = cc in n (ap Checked.Refused same)
+      by (Ok _) n e = compared_other why other port (present_in what) (next_of what (own_account port s)) s e
+      by (Err v) n e = let same : v ≡ why = cc in n (ap Err same)
 
   pub call_never : (port : ℕ) (what : Offered) (c : Call) (s : State) → Offers port what c → answer c s ≡ Answer.Refused why → ⊥
   call_never port what c s p e = offers_never port what s (sym (call_offers port what c s p).0 ∙ e)
@@ -58,25 +57,25 @@ module _ (why : Refusal) (own : is_in (listing_of why).0 thirties ≡ true) wher
 
   -- A reply: it is the answer exactly if the reading refuses so.
   pub reply_handed_on : (port : ℕ) (text : List ℕ) (s : State)
-      → (replied_answer (read_and_offered port text s).answer ≡ Answer.Refused why) ↔ (reply_text_of text ≡ ReplyText.Refused why)
+      → (replied_answer (read_and_offered port text s).answer ≡ Answer.Refused why) ↔ (reply_text_of text ≡ Err why)
   unfolding read_and_offered
-  reply_handed_on port text s = (to (reply_text_of text), λ e. ap (λ (r : ReplyText). replied_answer (offered_as port text r s).answer) e)
+  reply_handed_on port text s = (to (reply_text_of text), λ e. ap (λ (r : Result ReplyText Refusal). replied_answer (offered_as port text r s).answer) e)
     where
-      to : (r : ReplyText) → replied_answer (offered_as port text r s).answer ≡ Answer.Refused why → r ≡ ReplyText.Refused why
-      to (ReplyText.Login password) e = not_offered port (Offered.Login password) s _ (offer-offers port password s) e
-      to (ReplyText.Renewal number count start len new present) e =
+      to : (r : Result ReplyText Refusal) → replied_answer (offered_as port text r s).answer ≡ Answer.Refused why → r ≡ Err why
+      to (Ok (ReplyText.Login password)) e = not_offered port (Offered.Login password) s _ (offer-offers port password s) e
+      to (Ok (ReplyText.Renewal number count start len new present)) e =
           not_offered port (Offered.Renewal number count (seed_part text start len) new present) s _
           (renewal_offers port number count (seed_part text start len) new present s) e
-      to (ReplyText.Refused v) e = ap ReplyText.Refused (as_refused v e)
+      to (Err v) e = ap Err (as_refused v e)
 
   -- A renewal with a plain text.
   pub renewal_handed_on : (port number count : ℕ) (seed : List ℕ) (new : ℕ) (text : List ℕ) (s : State)
-      → (replied_answer (read_and_renewed port number count seed new text s).answer ≡ Answer.Refused why) ↔ (reading_of text ≡ Reading.Refused why)
+      → (replied_answer (read_and_renewed port number count seed new text s).answer ≡ Answer.Refused why) ↔ (reading_of text ≡ Err why)
   unfolding read_and_renewed
   renewal_handed_on port number count seed new text s =
       (to (reading_of text), λ e. ap (λ (r : Reading). replied_answer (renewed_as port number count seed new r s).answer) e)
     where
-      to : (r : Reading) → replied_answer (renewed_as port number count seed new r s).answer ≡ Answer.Refused why → r ≡ Reading.Refused why
-      to (Reading.Password password) e =
+      to : (r : Reading) → replied_answer (renewed_as port number count seed new r s).answer ≡ Answer.Refused why → r ≡ Err why
+      to (Ok password) e =
           not_offered port (Offered.Renewal number count seed new password) s _ (renewal_offers port number count seed new password s) e
-      to (Reading.Refused v) e = ap Reading.Refused (as_refused v e)
+      to (Err v) e = ap Err (as_refused v e)

@@ -1,5 +1,5 @@
 -- R-4: "Calls of ports in other lines change neither a line, its turn, nor its account"; and what the other calls change of them.
-use Rattle.std.specs.Prelude.{ℕ, ◌≤◌, refl, Bool, cond, not, List, [], ◌∷◌, eqb, ltb, length, set}
+use Rattle.std.specs.Prelude.{ℕ, ◌≤◌, refl, Bool, cond, not, List, [], ◌∷◌, eqb, ltb, length, set, Ok, Err}
 use Rattle.std.proofs.Common.{suc-le-suc, arith, sym, ◌∙◌, eqb-true, ne_eqb, ltb-true, lt-ltb, get_or-set_other}
 use Rattle.std.proofs.Math.Decide.{ℕ_discrete}
 use Rattle.std.proofs.Math.Path.{◌≡◌, ap}
@@ -9,7 +9,7 @@ use Rattle.std.proofs.Math.ListN.{get_or}
 use Rattle.std.proofs.Math.Seq.{get_or-set_same}
 use Rattle.text.specs.Tests.{either, cases, second_fails}
 use Rattle.refusal.specs.declared.Refusal.{Refusal}
-use Rattle.refusal.specs.declared.Checked.{Checked}
+use Rattle.refusal.specs.Answers.{Checked}
 use Rattle.refusal.specs.Checks.{unless}
 use Rattle.refusal.specs.Laws.{must_good}
 use Rattle.password.specs.Password.{hash, bytes_of}
@@ -135,8 +135,8 @@ unfolding join
 waiting_join port id s e = by (join_checked port id s) refl
   where
     by : (k : Checked) → join_checked port id s ≡ k → (unless (refused s) k (done (joins port id s))).state ≡ s
-    by Checked.Good f = absurd (true≢false (sym e ∙ (join_good port id s f).2))
-    by (Checked.Refused why) f = refl
+    by (Ok _) f = absurd (true≢false (sym e ∙ (join_good port id s f).2))
+    by (Err why) f = refl
 
 pub waiting_stays : (s : State) (i port : ℕ) → is_there i s ≡ true → waits port s ≡ true → stands_in port (line_of i s) ≡ false
     → (c : Call) → made_by port c ≡ true → held_of i (after c s) ≡ held_of i s
@@ -161,13 +161,13 @@ unfolding tick
 tick_held i s = found-lined Line.ticked ticked-empty i s.rooms
 
 -- An answer that is no refusal: the checks found nothing wrong, and this is what was done.
-settled_done : (s next : State) (check : Checked) → (unless (refused s) check (done next)).answer ≡ Checked.Good
-    → (check ≡ Checked.Good) × ((unless (refused s) check (done next)).state ≡ next)
-settled_done s next Checked.Good e = (refl, refl)
-settled_done s next (Checked.Refused why) e = let z : ◌≡◌ {A = ℕ} 0 1 = cc in absurd (omega arith)
+settled_done : (s next : State) (check : Checked) → (unless (refused s) check (done next)).answer ≡ Ok tt
+    → (check ≡ Ok tt) × ((unless (refused s) check (done next)).state ≡ next)
+settled_done s next (Ok _) e = (refl, refl)
+settled_done s next (Err why) e = let z : ◌≡◌ {A = ℕ} 0 1 = cc in absurd (omega arith)
 
 -- Join for this account, when it is done: the port is at the back of its line, where it wasn't before.
-pub joined_held : (p i : ℕ) (s : State) → Made s → (join p i s).answer ≡ Checked.Good
+pub joined_held : (p i : ℕ) (s : State) → Made s → (join p i s).answer ≡ Ok tt
     → (held_of i (join p i s).state ≡ record { account = account_of i s; line = Line.joined p (line_of i s) }) × (p ≤ 3) × (stands_in p (line_of i s) ≡ false)
 unfolding join joins
 joined_held p i s m e =
@@ -180,13 +180,13 @@ joined_held p i s m e =
     )
 
 -- It comes from no line.
-pub joined_from_none : (p i : ℕ) (s : State) → (join p i s).answer ≡ Checked.Good → (j : ℕ) → stands_in p (line_of j s) ≡ false
+pub joined_from_none : (p i : ℕ) (s : State) → (join p i s).answer ≡ Ok tt → (j : ℕ) → stands_in p (line_of j s) ≡ false
 unfolding join
 joined_from_none p i s e j =
     waits_nowhere p j s (join_good p i s (settled_done s (joins p i s) (join_checked p i s) e).0).2
 
 -- Its turn is 60 then if nobody waited, and goes on otherwise.
-pub joined_turn : (p i : ℕ) (s : State) → Made s → (join p i s).answer ≡ Checked.Good
+pub joined_turn : (p i : ℕ) (s : State) → Made s → (join p i s).answer ≡ Ok tt
     → ((line_of i s).ports ≡ [] → (line_of i (join p i s).state).turn ≡ 60)
     × (((line_of i s).ports ≡ [] → ⊥) → (line_of i (join p i s).state).turn ≡ (line_of i s).turn)
 joined_turn p i s m e =
@@ -201,7 +201,7 @@ joined_turn p i s m e =
     goes_on (x ∷ l) turn n = refl
 
 -- Remove, when it is done: the account was there, and this is the table then.
-removed : (i : ℕ) (s : State) → (remove i s).answer ≡ Checked.Good
+removed : (i : ℕ) (s : State) → (remove i s).answer ≡ Ok tt
     → (is_there i s ≡ true) × ((remove i s).state ≡ with_room (place_of i s.rooms) free_room s)
 unfolding remove
 removed i s e =
@@ -209,14 +209,14 @@ removed i s e =
     (must_good (is_there i s) Refusal.AccountMissing found.0, found.1)
 
 -- The account's room is free, on any table.
-pub removed_free : (i : ℕ) (s : State) → (remove i s).answer ≡ Checked.Good → room_at (place_of i s.rooms) (remove i s).state ≡ free_room
+pub removed_free : (i : ℕ) (s : State) → (remove i s).answer ≡ Ok tt → room_at (place_of i s.rooms) (remove i s).state ≡ free_room
 removed_free i s e =
     let at = place_of i s.rooms in
     let did = removed i s e in
     ap (room_at at) did.1 ∙ get_or-set_same s.rooms at free_room free_room (there_parts i s.rooms did.0).1
 
 -- The account isn't there, and nobody waits for it.
-pub removed_gone : (i : ℕ) (s : State) → Made s → (remove i s).answer ≡ Checked.Good
+pub removed_gone : (i : ℕ) (s : State) → Made s → (remove i s).answer ≡ Ok tt
     → (is_there i (remove i s).state ≡ false) × (line_of i (remove i s).state ≡ empty)
 removed_gone i s m e =
     let did = removed i s e in
@@ -242,7 +242,7 @@ module _ (p i : ℕ) (s : State) (m : Made s) (stood : stands_in p (line_of i s)
       ap (λ (h : Held). stands_in p h.line) (sym (get_or-set_other s.rooms at k free_room free_room other)) ∙ f in
       other (sym (stands_once p k s.rooms m.once there) ∙ stands_once p at s.rooms m.once stood)
 
-  pub removed_out : (remove i s).answer ≡ Checked.Good → waits p (remove i s).state ≡ false
+  pub removed_out : (remove i s).answer ≡ Ok tt → waits p (remove i s).state ≡ false
   removed_out e =
       let next = with_room (place_of i s.rooms) free_room s in
       let k = stands_at p gone_rooms in
@@ -252,7 +252,7 @@ module _ (p i : ℕ) (s : State) (m : Made s) (stood : stands_in p (line_of i s)
       (λ f. f)
 
 -- Enrol, when it is done: what its checks found, and the table then.
-enrolled : (i number count : ℕ) (seed password : List ℕ) (s : State) → (enrol i number count seed password s).answer ≡ Checked.Good
+enrolled : (i number count : ℕ) (seed password : List ℕ) (s : State) → (enrol i number count seed password s).answer ≡ Ok tt
     → ((enrol i number count seed password s).state ≡ with_account (place_of 0 s.rooms) (new_room i number count seed password) s)
     × (i ≡ 0 → ⊥) × (is_there i s ≡ false) × (holds 0 s.rooms ≡ true)
 unfolding enrol
@@ -263,7 +263,7 @@ enrolled i number count seed password s e =
     (found.1, eqb-false i 0 (not-true (eqb i 0) passed.given), not-true (is_there i s) passed.new, passed.room)
 
 -- The account is the new one, on any table.
-pub enrolled_account : (i number count : ℕ) (seed password : List ℕ) (s : State) → (enrol i number count seed password s).answer ≡ Checked.Good
+pub enrolled_account : (i number count : ℕ) (seed password : List ℕ) (s : State) → (enrol i number count seed password s).answer ≡ Ok tt
     → account_of i (enrol i number count seed password s).state ≡ new_room i number count seed password
 enrolled_account i number count seed password s e =
     let did = enrolled i number count seed password s e in
@@ -271,7 +271,7 @@ enrolled_account i number count seed password s e =
     ∙ ap (λ (held : Held). held.account) (new_there (new_room i number count seed password) s did.1 did.2 did.3)
 
 -- It is there.
-pub enrolled_there : (i number count : ℕ) (seed password : List ℕ) (s : State) → (enrol i number count seed password s).answer ≡ Checked.Good
+pub enrolled_there : (i number count : ℕ) (seed password : List ℕ) (s : State) → (enrol i number count seed password s).answer ≡ Ok tt
     → is_there i (enrol i number count seed password s).state ≡ true
 enrolled_there i number count seed password s e =
     sym (account_there_lem i (enrol i number count seed password s).state.rooms)
@@ -279,14 +279,14 @@ enrolled_there i number count seed password s e =
     ∙ ap not (ne_eqb i 0 (enrolled i number count seed password s e).1)
 
 -- In tables that calls make nobody waits for it yet.
-pub enrolled_new : (i number count : ℕ) (seed password : List ℕ) (s : State) → Made s → (enrol i number count seed password s).answer ≡ Checked.Good
+pub enrolled_new : (i number count : ℕ) (seed password : List ℕ) (s : State) → Made s → (enrol i number count seed password s).answer ≡ Ok tt
     → held_of i (enrol i number count seed password s).state ≡ record { account = new_room i number count seed password; line = empty }
 enrolled_new i number count seed password s m e =
     let did = enrolled i number count seed password s e in
     ap (held_of i) did.0 ∙ new_held (new_room i number count seed password) s m did.1 did.2 did.3
 
 -- Leave, when it is done: the port is out of its line; a line in which it wasn't is as it was.
-pub leave_held : (p i : ℕ) (s : State) → (leave p s).answer ≡ Checked.Good
+pub leave_held : (p i : ℕ) (s : State) → (leave p s).answer ≡ Ok tt
     → held_of i (leave p s).state ≡ record { account = account_of i s; line = Line.left p (line_of i s) }
 unfolding leave
 leave_held p i s e = ap (held_of i) (settled_done s (Steps.leaves p s) (leave_checked p s) e).1 ∙ left_held i s p
@@ -318,8 +318,8 @@ module _ (port n : ℕ) (s : State) (i : ℕ) where
       by : (k : Checked)
           → replied_answer (unless (reply_refused s) k (compared port (present_in what) (next_of what (own_account port s)) s)).answer ≡ Answer.Count n
           → line_of i (unless (reply_refused s) k (compared port (present_in what) (next_of what (own_account port s)) s)).state ≡ Line.left port (line_of i s)
-      by (Checked.Refused why) e = let z : ◌≡◌ {A = ℕ} 0 1 = cc in absurd (omega arith)
-      by Checked.Good e = compared-left (present_in what) (next_of what (own_account port s)) (next_id what (own_account port s)) e
+      by (Err why) e = let z : ◌≡◌ {A = ℕ} 0 1 = cc in absurd (omega arith)
+      by (Ok _) e = compared-left (present_in what) (next_of what (own_account port s)) (next_id what (own_account port s)) e
 
 -- Of the call.
 pub accepted_left : (port n : ℕ) (what : Offered) (c : Call) (s : State) → Offers port what c → answer c s ≡ Answer.Count n → (i : ℕ)

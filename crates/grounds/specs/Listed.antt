@@ -1,8 +1,7 @@
 -- The words of the letter's first demand: the list of refusal numbers, and that a number is some call's answer. Which answer goes by which
 -- conditions is in Conditions.
-use Rattle.std.specs.Prelude.{ℕ, ◌≡◌, Bool, false, ◌||◌, List, [], ◌∷◌, eqb}
-use Rattle.refusal.specs.declared.Reading.{Reading}
-use Rattle.refusal.specs.declared.Written.{Written}
+use Rattle.std.specs.Prelude.{ℕ, ◌≡◌, Bool, false, ◌||◌, List, [], ◌∷◌, eqb, Result}
+use Rattle.refusal.specs.Answers.{Reading, Written}
 use Rattle.refusal.specs.Numbers.{reading_numbers, written_numbers}
 use Rattle.challenge.specs.declared.reading.Challenge.{Challenge}
 use Rattle.text.specs.Put.{written_of}
@@ -16,6 +15,7 @@ use Rattle.hex_text.specs.Hex.{hex_of}
 use Rattle.cards.specs.Cards.{card_written}
 use Rattle.table.specs.Table.{fresh}
 use Rattle.reached.specs.Calls.{Call, answer, numbers, run}
+use Rattle.refusal.specs.declared.Refusal.{Refusal}
 
 -- One of the numbers is n.
 abbrev pub is_in : ℕ → List ℕ → Bool
@@ -36,10 +36,10 @@ read_number reading = (reading_numbers reading).0.0
 abbrev pub written_number : Written → ℕ
 written_number written = (written_numbers written).0.0
 
-abbrev pub reply_number : ReplyText → ℕ
+abbrev pub reply_number : Result ReplyText Refusal → ℕ
 reply_number reply = (reply_numbers reply).0.0
 
-abbrev pub challenge_number : Challenge → ℕ
+abbrev pub challenge_number : Result Challenge Refusal → ℕ
 challenge_number challenge = (challenge_numbers challenge).0.0
 
 -- The number that the call answers after the others, from the fresh table.

@@ -1,8 +1,7 @@
 -- The longest wait: a port that joins fourth, with no tick before, waits for 180 ticks.
-use Rattle.std.specs.Prelude.{ℕ, zero, suc, ◌+◌, ◌≤◌, ◌≡◌, refl, Bool, true, not, List, [], ◌∷◌, ◌++◌, replicate}
+use Rattle.std.specs.Prelude.{ℕ, zero, suc, ◌+◌, ◌≤◌, ◌≡◌, refl, Bool, true, not, List, [], ◌∷◌, ◌++◌, replicate, Ok}
 use Rattle.std.proofs.Common.{suc-le-suc, arith, add_comm, add-one, sym, ap, ◌∙◌, true≢false}
 use Rattle.std.proofs.lemmas.Bool.{not-true}
-use Rattle.refusal.specs.declared.Checked.{Checked}
 use Rattle.text.specs.Tests.{every, every_at, every_weaker}
 use Rattle.digests.specs.Lists.{up_to, length-up_to, get_d_up_to}
 use Rattle.password.specs.PhraseAndSeed.{plain}
@@ -26,7 +25,7 @@ unfoldable pub has_turn_after : Algorithm → ℕ → Bool
 has_turn_after algorithm n = has_turn_for 3 1 (run (replicate n Call.Tick) (join 3 1 (run (three_wait algorithm) fresh)).state)
 
 -- The fourth joins.
-pub fourth_joins : (algorithm : Algorithm) → (join 3 1 (run (three_wait algorithm) fresh)).answer ≡ Checked.Good
+pub fourth_joins : (algorithm : Algorithm) → (join 3 1 (run (three_wait algorithm) fresh)).answer ≡ Ok tt
 unfolding run enrol enrol_checked join join_checked joins some place_of stands_at in_lines plain every
 fourth_joins Algorithm.Md5 = refl
 fourth_joins Algorithm.Sha1 = refl

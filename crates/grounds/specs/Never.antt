@@ -1,14 +1,13 @@
 -- Checks that never refuse with certain numbers.
-use Rattle.std.specs.Prelude.{ℕ, ◌≡◌, Bool, true, false, cond, not, ◌&&◌, List, [], ◌∷◌, map, eqb, leb, ltb, length}
+use Rattle.std.specs.Prelude.{ℕ, ◌≡◌, Bool, true, false, cond, not, ◌&&◌, List, [], ◌∷◌, map, eqb, leb, ltb, length, Option, Some, None, Ok, Err}
 use Rattle.std.proofs.Common.{arith, sym, ap, ◌∙◌, true≢false}
 use Rattle.std.proofs.lemmas.Bool.{not-true}
 use Rattle.refusal.specs.declared.Refusal.{Refusal}
-use Rattle.refusal.specs.declared.Checked.{Checked}
+use Rattle.refusal.specs.Answers.{Checked}
 use Rattle.refusal.specs.Numbers.{listing_of}
 use Rattle.refusal.specs.Checks.{must, unless, in_order}
 use Rattle.text.specs.Kinds.{lower_of}
 use Rattle.text.specs.Tests.{both}
-use Rattle.password.specs.declared.algorithm.Named.{Named}
 use Rattle.password.specs.Algorithm.{numbered, algorithm_checked}
 use Rattle.password.specs.PhraseAndSeed.{plain, seed_checked}
 use Rattle.accounts.specs.Rooms.{Room, remembered}
@@ -17,11 +16,12 @@ use Rattle.table.specs.Table.{State, waits, own_account, has_turn}
 use Rattle.table.specs.Steps.{turn_checked}
 use Rattle.reached.specs.Offered.{Offered, new_values_checked, offer_checked}
 use Rattle.grounds.specs.Listed.{is_in}
+use Rattle.password.specs.declared.algorithm.Algorithm.{Algorithm}
 
 -- A check: a test with its refusal, or that of an algorithm or of a seed.
 pub data Test : Type 0 where
   test : Bool → Refusal → Test
-  of_algorithm : Named → Test
+  of_algorithm : Option Algorithm → Test
   of_seed : List ℕ → Test
 
 abbrev pub check_of : Test → Checked
@@ -52,32 +52,32 @@ values_tests number count seed old =
 
 module _ (numbers : List ℕ) (why : Refusal) (own : is_in (listing_of why).0 numbers ≡ true) where
   abbrev pub Never : Checked → Type 0
-  Never check = check ≡ Checked.Refused why → ⊥
+  Never check = check ≡ Err why → ⊥
 
-  good_never : Never Checked.Good
+  good_never : Never (Ok tt)
   good_never e = let z : ◌≡◌ {A = ℕ} 0 1 = cc in omega arith
 
-  pub other_never : (w : Refusal) → other numbers w ≡ true → Never (Checked.Refused w)
+  pub other_never : (w : Refusal) → other numbers w ≡ true → Never (Err w)
   other_never w h e =
       let same : w ≡ why = cc in
       true≢false (sym own ∙ ap (λ (x : Refusal). is_in (listing_of x).0 numbers) (sym same) ∙ not-true (is_in (listing_of w).0 numbers) h)
 
-  pub then_never : (check next : Checked) → Never check → Never next → Never (unless Checked.Refused check next)
-  then_never Checked.Good next h k = k
-  then_never (Checked.Refused w) next h k = h
+  pub then_never : (check next : Checked) → Never check → Never next → Never (unless Err check next)
+  then_never (Ok _) next h k = k
+  then_never (Err w) next h k = h
 
   pub test_never : (t : Bool) (w : Refusal) → other numbers w ≡ true → Never (must t w)
   test_never true w h = good_never
   test_never false w h = other_never w h
 
-  algorithm_never : (found : Named) → other numbers Refusal.AlgorithmUnknown ≡ true → Never (algorithm_checked found)
-  algorithm_never (Named.Is algorithm) h = good_never
-  algorithm_never Named.Unknown h = other_never Refusal.AlgorithmUnknown h
+  algorithm_never : (found : Option Algorithm) → other numbers Refusal.AlgorithmUnknown ≡ true → Never (algorithm_checked found)
+  algorithm_never (Some algorithm) h = good_never
+  algorithm_never None h = other_never Refusal.AlgorithmUnknown h
 
   pub seed_never : (text : List ℕ) → other numbers Refusal.SeedLength ≡ true → other numbers Refusal.SeedCharacter ≡ true → Never (seed_checked text)
   seed_never text a b = go (leb 1 (length text) && leb (length text) 16) (plain text)
     where
-      go : (t u : Bool) → Never (cond t (cond u Checked.Good (Checked.Refused Refusal.SeedCharacter)) (Checked.Refused Refusal.SeedLength))
+      go : (t u : Bool) → Never (cond t (cond u (Ok tt) (Err Refusal.SeedCharacter)) (Err Refusal.SeedLength))
       go true true = good_never
       go true false = other_never Refusal.SeedCharacter b
       go false u = other_never Refusal.SeedLength a

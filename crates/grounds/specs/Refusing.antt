@@ -1,13 +1,12 @@
 -- The refusals of the checks, the readers and the writers go by their rows.
-use Rattle.std.specs.Prelude.{ℕ, ◌+◌, ◌*◌, ◌/◌, ◌≡◌, refl, Bool, true, false, cond, not, ◌&&◌, ◌||◌, List, [], ◌∷◌, ◌++◌, map, eqb, leb, ltb, length, take}
+use Rattle.std.specs.Prelude.{ℕ, ◌+◌, ◌*◌, ◌/◌, ◌≡◌, refl, Bool, true, false, cond, not, ◌&&◌, ◌||◌, List}
+use Rattle.std.specs.Prelude.{[], ◌∷◌, ◌++◌, map, eqb, leb, ltb, length, take, Option, Some, None, Ok, Err, Result}
 use Rattle.std.specs.Prelude.{drop}
 use Rattle.std.proofs.Common.{arith, sym, ap, ap₂, ◌∙◌, subst, lt-ltb, le-ltb, ltb-true, ltb-false, leb-true, leb-false}
 use Rattle.std.proofs.lemmas.Bool.{false≢true}
 use Rattle.std.proofs.Math.Bool.{not-not}
 use Rattle.refusal.specs.declared.Refusal.{Refusal}
-use Rattle.refusal.specs.declared.Checked.{Checked}
-use Rattle.refusal.specs.declared.Reading.{Reading}
-use Rattle.refusal.specs.declared.Written.{Written}
+use Rattle.refusal.specs.Answers.{Checked, Reading, Written}
 use Rattle.refusal.specs.Checks.{unless, read_checked}
 use Rattle.refusal.specs.Laws.{in_parts}
 use Rattle.text.specs.Kinds.{lower_of}
@@ -19,19 +18,15 @@ use Rattle.text.specs.Counts.{is_count}
 use Rattle.block.specs.Digest.{digest_of}
 use Rattle.password.specs.PhraseAndSeed.{plain, phrase_checked, seed_checked}
 use Rattle.password.specs.declared.algorithm.Algorithm.{Algorithm}
-use Rattle.password.specs.declared.algorithm.Named.{Named}
 use Rattle.password.specs.Algorithm.{algorithm_number, algorithm_name, algorithm_by, numbered, named, algorithm_checked}
 use Rattle.password.specs.Password.{generated_by, generated}
-use Rattle.dictionary.specs.declared.Found.{Found}
 use Rattle.dictionary.specs.Dictionary.{place_of}
 use Rattle.dictionary.proofs.InOrder.{found_word}
-use Rattle.sixwords.specs.declared.Number.{Number}
 use Rattle.sixwords.specs.Places.{joined, all_places, number_of as places_number}
 use Rattle.hex_text.specs.Hex.{sixteen_digits, hex_reading}
 use Rattle.reply.specs.Reply.{is_word, six_words, upper_text, summed, marks_of, place_in, found_reading, six_reading, reading_of}
 use Rattle.reply.specs.Laws.{spelt_token, six_parts}
 use Rattle.extended.specs.declared.reply_types.ReplyType.{ReplyType}
-use Rattle.extended.specs.declared.reply_types.Typed.{Typed}
 use Rattle.extended.specs.declared.reply_texts.ReplyText.{ReplyText}
 use Rattle.extended.specs.ReplyTypes.{type_name, type_number, type_by, typed, type_numbered, type_checked, type_in, is_init, is_hex}
 use Rattle.extended.specs.ReplyTexts.{
@@ -113,39 +108,39 @@ use Rattle.grounds.specs.Exactly.{
 -- ---- what an answer refuses
 
 abbrev pub answer_checked : Answer → Checked
-answer_checked Answer.Done = Checked.Good
-answer_checked (Answer.Count count) = Checked.Good
-answer_checked (Answer.Wrote n) = Checked.Good
-answer_checked (Answer.Refused why) = Checked.Refused why
+answer_checked Answer.Done = Ok tt
+answer_checked (Answer.Count count) = Ok tt
+answer_checked (Answer.Wrote n) = Ok tt
+answer_checked (Answer.Refused why) = Err why
 
 pub answer_exactly : (a : Answer) (rows : List Row) → Follows (answer_checked a) rows → Exactly (numbers a).0.0 rows
-answer_exactly Answer.Done rows f = exactly Checked.Good rows f 0 refl
-answer_exactly (Answer.Count count) rows f = exactly Checked.Good rows f 0 refl
-answer_exactly (Answer.Wrote n) rows f = exactly Checked.Good rows f 0 refl
-answer_exactly (Answer.Refused why) rows f = exactly (Checked.Refused why) rows f (listed_as why) refl
+answer_exactly Answer.Done rows f = exactly (Ok tt) rows f 0 refl
+answer_exactly (Answer.Count count) rows f = exactly (Ok tt) rows f 0 refl
+answer_exactly (Answer.Wrote n) rows f = exactly (Ok tt) rows f 0 refl
+answer_exactly (Answer.Refused why) rows f = exactly (Err why) rows f (listed_as why) refl
 
 abbrev pub written_checked : Written → Checked
 written_checked w = answer_checked (written_answer w)
 
 checked_exactly : (check : Checked) (rows : List Row) → Follows check rows → Exactly (checked_numbers check).0 rows
-checked_exactly Checked.Good rows f = exactly Checked.Good rows f 0 refl
-checked_exactly (Checked.Refused why) rows f = exactly (Checked.Refused why) rows f (listed_as why) refl
+checked_exactly (Ok _) rows f = exactly (Ok tt) rows f 0 refl
+checked_exactly (Err why) rows f = exactly (Err why) rows f (listed_as why) refl
 
 read_exactly : (r : Reading) (rows : List Row) → Follows (read_checked r) rows → Exactly (read_number r) rows
-read_exactly (Reading.Password password) rows f = exactly Checked.Good rows f 0 refl
-read_exactly (Reading.Refused why) rows f = exactly (Checked.Refused why) rows f (listed_as why) refl
+read_exactly (Ok password) rows f = exactly (Ok tt) rows f 0 refl
+read_exactly (Err why) rows f = exactly (Err why) rows f (listed_as why) refl
 
 written_exactly : (w : Written) (rows : List Row) → Follows (written_checked w) rows → Exactly (written_number w) rows
-written_exactly (Written.Wrote n) rows f = exactly Checked.Good rows f 0 refl
-written_exactly (Written.Refused why) rows f = exactly (Checked.Refused why) rows f (listed_as why) refl
+written_exactly (Ok n) rows f = exactly (Ok tt) rows f 0 refl
+written_exactly (Err why) rows f = exactly (Err why) rows f (listed_as why) refl
 
 -- ---- a pass-phrase, a seed, an account's new values
 
 phrase_rows_lem : (phrase : List ℕ) → Follows (phrase_checked phrase) (phrase_rows phrase)
 phrase_rows_lem phrase =
-    let next = otherwise (λ (c : Checked). c) Checked.Refused (λ why. refl) in
+    let next = otherwise (λ (c : Checked). c) Err (λ why. refl) in
     next (ltb (length phrase) 10) Refusal.PhraseShort _ _
-    (next (ltb 63 (length phrase)) Refusal.PhraseLong Checked.Good [] (no_rows Checked.Good refl))
+    (next (ltb 63 (length phrase)) Refusal.PhraseLong (Ok tt) [] (no_rows (Ok tt) refl))
 
 pub phrase_exactly : (phrase : List ℕ) → Exactly (checked_numbers (phrase_checked phrase)).0 (phrase_rows phrase)
 phrase_exactly phrase = checked_exactly (phrase_checked phrase) (phrase_rows phrase) (phrase_rows_lem phrase)
@@ -155,7 +150,7 @@ unfolding Follows
 seed_rows_lem seed rest = go (leb 1 (length seed) && leb (length seed) 16) (plain seed)
   where
     go : (a b : Bool)
-        → unless listed_as (cond a (cond b Checked.Good (Checked.Refused Refusal.SeedCharacter)) (Checked.Refused Refusal.SeedLength)) rest
+        → unless listed_as (cond a (cond b (Ok tt) (Err Refusal.SeedCharacter)) (Err Refusal.SeedLength)) rest
         ≡ cond (not a) 23 (cond (not b) 24 rest)
     go true true = refl
     go true false = refl
@@ -170,7 +165,7 @@ unfolding Follows
 found_rows test rest = go (test Algorithm.Md5) (test Algorithm.Sha1)
   where
     go : (a b : Bool)
-        → unless listed_as (algorithm_checked (cond a (Named.Is Algorithm.Md5) (cond b (Named.Is Algorithm.Sha1) Named.Unknown))) rest
+        → unless listed_as (algorithm_checked (cond a (Some Algorithm.Md5) (cond b (Some Algorithm.Sha1) None))) rest
         ≡ cond (not (a || b)) 21 rest
     go true b = refl
     go false true = refl
@@ -184,7 +179,7 @@ unfolding new_checked
 new_rows_lem number count seed =
     then_test (leb 2 count && leb count 9999) _ Refusal.CountOutside _ _ refl
     (λ a. then_check (algorithm_checked (numbered number)) _ (algorithm_rows number) _ (algorithm_rows_lem number)
-    (λ b. then_check (seed_checked seed) _ (seed_rows seed) _ (seed_rows_lem seed) (λ c. no_rows Checked.Good refl)))
+    (λ b. then_check (seed_checked seed) _ (seed_rows seed) _ (seed_rows_lem seed) (λ c. no_rows (Ok tt) refl)))
 
 pub values_rows_lem : (number count : ℕ) (seed : List ℕ) (present : Room)
     → Follows (values_checked number count seed present) (values_rows number count seed present)
@@ -194,7 +189,7 @@ values_rows_lem number count seed present =
     (in_parts (count_within count ∷ algorithm_checked (numbered number) ∷ seed_checked seed ∷ []) (seed_other seed present ∷ []))
     (then_check (new_checked number count seed) _ (new_rows number count seed) _ (new_rows_lem number count seed)
     (λ c. then_test (not (is_one_of (map lower_of seed) (remembered present))) _ Refusal.SeedSame _ _
-    (not-not (is_one_of (map lower_of seed) (remembered present))) (λ d. no_rows Checked.Good refl)))
+    (not-not (is_one_of (map lower_of seed) (remembered present))) (λ d. no_rows (Ok tt) refl)))
 
 pub values_exactly : (number count : ℕ) (seed : List ℕ) (present : Room)
     → Exactly (checked_numbers (values_checked number count seed present)).0 (values_rows number count seed present)
@@ -205,12 +200,12 @@ pub generator_exactly : (number : ℕ) (phrase seed : List ℕ) (count : ℕ)
     → Exactly (read_number (generated number phrase seed count)) (algorithm_rows number ++ phrase_rows phrase ++ seed_rows seed ++ (13, ltb 9999 count) ∷ [])
 unfolding generated generated_by
 generator_exactly number phrase seed count =
-    let next = behind read_checked Reading.Refused (λ why. refl) in
+    let next = behind read_checked Err (λ why. refl) in
     read_exactly (generated number phrase seed count) _
     (next (algorithm_checked (numbered number)) _ (algorithm_rows number) _ (algorithm_rows_lem number)
     (λ a. next (phrase_checked phrase) _ (phrase_rows phrase) _ (phrase_rows_lem phrase)
     (λ b. next (seed_checked seed) _ (seed_rows seed) _ (seed_rows_lem seed)
-    (λ c. otherwise read_checked Reading.Refused (λ why. refl) (ltb 9999 count) Refusal.CountHigh _ [] (no_rows Checked.Good refl)))))
+    (λ c. otherwise read_checked Err (λ why. refl) (ltb 9999 count) Refusal.CountHigh _ [] (no_rows (Ok tt) refl)))))
 
 -- ---- writers
 
@@ -223,7 +218,7 @@ unfolding Follows
 room_rows_lem room text rest = go (leb (length text) room) ∙ ap (λ (b : Bool). cond b 40 rest) (not-leb (length text) room)
   where
     go : (t : Bool)
-        → unless listed_as (written_checked (cond t (Written.Wrote (length text)) (Written.Refused Refusal.BufferShort))) rest ≡ cond (not t) 40 rest
+        → unless listed_as (written_checked (cond t (Ok (length text)) (Err Refusal.BufferShort))) rest ≡ cond (not t) 40 rest
     go true = refl
     go false = refl
 
@@ -234,18 +229,18 @@ pub digest_exactly : (digest : List ℕ → List ℕ) (m : List ℕ) (room : ℕ
     → Exactly (written_number (digest_of digest m room)) ((12, ltb 4096 (length m)) ∷ room_rows room (digest m))
 digest_exactly digest m room =
     written_exactly (digest_of digest m room) _
-    (otherwise written_checked Written.Refused (λ why. refl) (ltb 4096 (length m)) Refusal.InputLong _ _ (room_rows_lem room (digest m)))
+    (otherwise written_checked Err (λ why. refl) (ltb 4096 (length m)) Refusal.InputLong _ _ (room_rows_lem room (digest m)))
 
 pub challenge_writer_exactly : (number : ℕ) (seed : List ℕ) (count room : ℕ)
     → Exactly (written_number (challenge_written number seed count room))
     (algorithm_rows number ++ seed_rows seed ++ (13, ltb 9999 count) ∷ room_rows room (text_by_number number seed count))
 unfolding challenge_written challenge_written_by
 challenge_writer_exactly number seed count room =
-    let next = behind written_checked Written.Refused (λ why. refl) in
+    let next = behind written_checked Err (λ why. refl) in
     written_exactly (challenge_written number seed count room) _
     (next (algorithm_checked (numbered number)) _ (algorithm_rows number) _ (algorithm_rows_lem number)
     (λ a. next (seed_checked seed) _ (seed_rows seed) _ (seed_rows_lem seed)
-    (λ b. otherwise written_checked Written.Refused (λ why. refl) (ltb 9999 count) Refusal.CountHigh _ _
+    (λ b. otherwise written_checked Err (λ why. refl) (ltb 9999 count) Refusal.CountHigh _ _
     (room_rows_lem room (text_by_number number seed count)))))
 
 -- ---- a challenge, and the card
@@ -253,21 +248,21 @@ challenge_writer_exactly number seed count room =
 challenge_rows_lem : (text : List ℕ) → Follows (challenge_checked (challenge_of text)) (challenge_rows text)
 unfolding challenge_of algorithm_name
 challenge_rows_lem text =
-    let step = behind_test challenge_checked Challenge.Refused (λ why. refl) in
-    let check = behind challenge_checked Challenge.Refused (λ why. refl) in
+    let step = behind_test challenge_checked Err (λ why. refl) in
+    let check = behind challenge_checked Err (λ why. refl) in
     let seed = token_at text (seed_at text) in
     step (same (take 4 text) opening) _ Refusal.OpeningWrong _ _ refl
     (λ a. check (algorithm_checked (named (token_at text 4))) _ _ _ (found_rows (λ (algorithm : Algorithm). same (token_at text 4) (algorithm_name algorithm)))
     (λ b. step (is_count (token_at text (count_at text))) _ Refusal.CountUnread _ _ refl
     (λ c. check (seed_checked seed) _ (seed_rows seed) _ (seed_rows_lem seed)
-    (λ d. step (terminated (drop (end_of text (seed_at text)) text)) _ Refusal.SeedUnended _ _ refl (λ e. no_rows Checked.Good refl)))))
+    (λ d. step (terminated (drop (end_of text (seed_at text)) text)) _ Refusal.SeedUnended _ _ refl (λ e. no_rows (Ok tt) refl)))))
 
 pub challenge_exactly : (text : List ℕ) → Exactly (challenge_number (challenge_of text)) (challenge_rows text)
 challenge_exactly text = go (challenge_of text) (challenge_rows_lem text)
   where
-    go : (c : Challenge) → Follows (challenge_checked c) (challenge_rows text) → Exactly (challenge_number c) (challenge_rows text)
-    go (Challenge.Read algorithm count start len used ext) f = exactly Checked.Good (challenge_rows text) f 0 refl
-    go (Challenge.Refused why) f = exactly (Checked.Refused why) (challenge_rows text) f (listed_as why) refl
+    go : (c : Result Challenge Refusal) → Follows (challenge_checked c) (challenge_rows text) → Exactly (challenge_number c) (challenge_rows text)
+    go (Ok c) f = exactly (Ok tt) (challenge_rows text) f 0 refl
+    go (Err why) f = exactly (Err why) (challenge_rows text) f (listed_as why) refl
 
 -- "card lines not 1 to 99 or more than the count"
 lines : (k n : ℕ) → not (leb 1 k && leb k 99 && leb k n) ≡ (not (leb 1 k && leb k 99) || ltb n k)
@@ -290,7 +285,7 @@ pub card_exactly : (phrase challenge : List ℕ) (k room : ℕ)
 unfolding card_written
 card_exactly phrase challenge k room =
     written_exactly (card_written phrase challenge k room) _
-    (behind written_checked Written.Refused (λ why. refl) (card_checked phrase challenge k) _ (card_rows phrase challenge k) _
+    (behind written_checked Err (λ why. refl) (card_checked phrase challenge k) _ (card_rows phrase challenge k) _
     (card_rows_lem phrase challenge k) (λ a. room_rows_lem room (card_of phrase challenge k)))
 
 -- ---- a reply
@@ -301,14 +296,14 @@ doubled m =
     (λ t. le-ltb 0 (0 + 2 * m) (omega (arith, ltb-false 0 m t)) ∙ sym t)
 
 -- Some mark is set unless each word is known.
-some_marked : (found : List Found) → ltb 0 (marks_of found) ≡ not (every is_known found)
+some_marked : (found : List (Option ℕ)) → ltb 0 (marks_of found) ≡ not (every is_known found)
 unfolding marks_of every
 some_marked [] = refl
-some_marked (Found.At i ∷ found) = doubled (marks_of found) ∙ some_marked found
-some_marked (Found.Nothing ∷ found) = lt-ltb 0 (1 + 2 * marks_of found) (omega arith)
+some_marked (Some i ∷ found) = doubled (marks_of found) ∙ some_marked found
+some_marked (None ∷ found) = lt-ltb 0 (1 + 2 * marks_of found) (omega arith)
 
 -- Words that are looked up: 31 unless each is known, and then the sum.
-found_first : (found : List Found) (rest : ℕ)
+found_first : (found : List (Option ℕ)) (rest : ℕ)
     → unless listed_as (read_checked (found_reading found)) rest
     ≡ cond (not (every is_known found)) 31 (unless listed_as (read_checked (summed (places_number (map place_in found)))) rest)
 unfolding found_reading
@@ -317,7 +312,7 @@ found_first found rest =
     ∙ ap (λ (b : Bool). cond b 31 (unless listed_as (read_checked (summed (places_number (map place_in found)))) rest)) (some_marked found)
   where
     go : (b : Bool)
-        → unless listed_as (read_checked (cond b (Reading.Refused (Refusal.WordUnknown (marks_of found))) (summed (places_number (map place_in found))))) rest
+        → unless listed_as (read_checked (cond b (Err (Refusal.WordUnknown (marks_of found))) (summed (places_number (map place_in found))))) rest
         ≡ cond b 31 (unless listed_as (read_checked (summed (places_number (map place_in found)))) rest)
     go true = refl
     go false = refl
@@ -328,7 +323,7 @@ unfolding places_number
 sum_first s rest e = go (all_places s) e (sum_right s)
   where
     go : (a : Bool) → a ≡ true → (b : Bool)
-        → unless listed_as (read_checked (summed (cond (a && b) (Number.Is (joined 0 s / 4)) Number.SumWrong))) rest ≡ cond (not b) 32 rest
+        → unless listed_as (read_checked (summed (cond (a && b) (Some (joined 0 s / 4)) None))) rest ≡ cond (not b) 32 rest
     go true e true = refl
     go true e false = refl
     go false e b = absurd (false≢true e)
@@ -347,9 +342,9 @@ known_places (t ∷ ts) g k =
     known : (is_known (place_of (upper_text t)) ≡ true) × (every is_known (map place_of (map upper_text ts)) ≡ true)
     known = both (is_known (place_of (upper_text t))) (every is_known (map place_of (map upper_text ts))) k
 
-    go : (r : Found) → place_of (upper_text t) ≡ r → is_known r ≡ true → ltb (place_in r) 2048 ≡ true
-    go (Found.At i) e h = lt-ltb i 2048 ((found_word (upper_text t) (spelt_token t words.0) i).0 e).0
-    go Found.Nothing e h = absurd (false≢true h)
+    go : (r : Option ℕ) → place_of (upper_text t) ≡ r → is_known r ≡ true → ltb (place_in r) 2048 ≡ true
+    go (Some i) e h = lt-ltb i 2048 ((found_word (upper_text t) (spelt_token t words.0) i).0 e).0
+    go None e h = absurd (false≢true h)
 
 words_first : (text : List ℕ) (rest : ℕ) → six_words (tokens text) ≡ true
     → unless listed_as (read_checked (found_reading (places_found text))) rest
@@ -368,7 +363,7 @@ unfolding Follows hex_reading
 hex_rows s rest = go (sixteen_digits s)
   where
     go : (t : Bool)
-        → unless listed_as (read_checked (cond t (Reading.Password (number_of 16 s)) (Reading.Refused Refusal.ReplyUnread))) rest ≡ cond (not t) 33 rest
+        → unless listed_as (read_checked (cond t (Ok (number_of 16 s)) (Err Refusal.ReplyUnread))) rest ≡ cond (not t) 33 rest
     go true = refl
     go false = refl
 
@@ -380,7 +375,7 @@ unfolding Follows reading_of
 reply_rows_lem text rest = go (ltb 128 (length text)) (six_words (tokens text)) refl
   where
     go : (a b : Bool) → six_words (tokens text) ≡ b
-        → unless listed_as (read_checked (cond a (Reading.Refused Refusal.ReplyLong)
+        → unless listed_as (read_checked (cond a (Err Refusal.ReplyLong)
         (cond b (found_reading (places_found text)) (hex_reading (unspaced text))))) rest
         ≡ cond a 30
         (cond (b && not (words_known text)) 31
@@ -400,7 +395,7 @@ unfolding Follows six_reading
 six_rows text rest = go (six_words (tokens text)) refl
   where
     go : (b : Bool) → six_words (tokens text) ≡ b
-        → unless listed_as (read_checked (cond b (found_reading (places_found text)) (Reading.Refused Refusal.ReplyUnread))) rest
+        → unless listed_as (read_checked (cond b (found_reading (places_found text)) (Err Refusal.ReplyUnread))) rest
         ≡ cond (b && not (words_known text)) 31 (cond (b && words_known text && not (words_right text)) 32 (cond (not b) 33 rest))
     go true e = words_first text rest e
     go false e = refl
@@ -425,8 +420,8 @@ unfolding Follows
 type_rows test rest = go (test ReplyType.Hex) (test ReplyType.Word) (test ReplyType.InitHex) (test ReplyType.InitWord)
   where
     go : (a b c d : Bool)
-        → unless listed_as (type_checked (cond a (Typed.Is ReplyType.Hex) (cond b (Typed.Is ReplyType.Word)
-        (cond c (Typed.Is ReplyType.InitHex) (cond d (Typed.Is ReplyType.InitWord) Typed.Unknown))))) rest
+        → unless listed_as (type_checked (cond a (Some ReplyType.Hex) (cond b (Some ReplyType.Word)
+        (cond c (Some ReplyType.InitHex) (cond d (Some ReplyType.InitWord) None))))) rest
         ≡ cond (not (a || b || c || d)) 34 rest
     go true b c d = refl
     go false true c d = refl
@@ -441,12 +436,12 @@ layout_rows_lem text =
     then_test (leb (length text) 256) _ Refusal.ReplyLong _ _ (not-leb (length text) 256)
     (λ a. then_check (type_checked (typed (part_at text 0))) _ ((34, not (is_type (part_at text 0))) ∷ []) _
     (type_rows (λ (kind : ReplyType). same (part_at text 0) (type_name kind)))
-    (λ b. then_test (eqb (colons text) (colons_of (type_of text))) _ Refusal.PartsWrong _ _ refl (λ c. no_rows Checked.Good refl)))
+    (λ b. then_test (eqb (colons text) (colons_of (type_of text))) _ Refusal.PartsWrong _ _ refl (λ c. no_rows (Ok tt) refl)))
 
 -- A login is refused as its password is.
 as_login : (r : Reading) → read_checked r ≡ text_checked (read_to (Said.Login r))
-as_login (Reading.Password p) = refl
-as_login (Reading.Refused why) = refl
+as_login (Ok p) = refl
+as_login (Err why) = refl
 
 -- What a text says is refused with, once it is laid out: the new password, then the present one.
 typed_rows : (kind : ReplyType) (text : List ℕ)
@@ -462,10 +457,10 @@ typed_rows kind text = go (is_init kind)
     present = password_by kind (part_at text (present_at text))
 
     as_renewal : (number count start len : ℕ) (n p : Reading)
-        → unless Checked.Refused (read_checked n) (read_checked p) ≡ text_checked (read_to (Said.Renewal number count start len n p))
-    as_renewal number count start len (Reading.Password n) (Reading.Password p) = refl
-    as_renewal number count start len (Reading.Password n) (Reading.Refused why) = refl
-    as_renewal number count start len (Reading.Refused why) p = refl
+        → unless Err (read_checked n) (read_checked p) ≡ text_checked (read_to (Said.Renewal number count start len n p))
+    as_renewal number count start len (Ok n) (Ok p) = refl
+    as_renewal number count start len (Ok n) (Err why) = refl
+    as_renewal number count start len (Err why) p = refl
 
     go : (b : Bool) → Follows (text_checked (read_to (cond b (renewal_in kind text) (Said.Login present))))
         (cond b (part_rows kind (part_at text (new_at text))) [] ++ part_rows kind (part_at text (present_at text)))
@@ -501,10 +496,10 @@ text_rows_lem text = go (is_plain text)
 pub text_exactly : (text : List ℕ) → Exactly (reply_number (reply_text_of text)) (text_rows text)
 text_exactly text = by (reply_text_of text) (text_rows_lem text)
   where
-    by : (r : ReplyText) → Follows (text_checked r) (text_rows text) → Exactly (reply_number r) (text_rows text)
-    by (ReplyText.Login password) f = exactly Checked.Good (text_rows text) f 0 refl
-    by (ReplyText.Renewal number count start len new present) f = exactly Checked.Good (text_rows text) f 0 refl
-    by (ReplyText.Refused why) f = exactly (Checked.Refused why) (text_rows text) f (listed_as why) refl
+    by : (r : Result ReplyText Refusal) → Follows (text_checked r) (text_rows text) → Exactly (reply_number r) (text_rows text)
+    by (Ok (ReplyText.Login password)) f = exactly (Ok tt) (text_rows text) f 0 refl
+    by (Ok (ReplyText.Renewal number count start len new present)) f = exactly (Ok tt) (text_rows text) f 0 refl
+    by (Err why) f = exactly (Err why) (text_rows text) f (listed_as why) refl
 
 -- The writer.
 pub extended_writer_exactly : (type password number count : ℕ) (seed : List ℕ) (new room : ℕ)
@@ -512,12 +507,12 @@ pub extended_writer_exactly : (type password number count : ℕ) (seed : List �
     (extended_rows type number count seed ++ room_rows room (text_by_numbers type password number count seed new))
 unfolding extended_written renewal_checked
 extended_writer_exactly type password number count seed new room =
-    let next = behind written_checked Written.Refused (λ why. refl) in
+    let next = behind written_checked Err (λ why. refl) in
     written_exactly (extended_written type password number count seed new room) _
     (next (type_checked (type_numbered type)) _ _ _ (type_rows (λ (kind : ReplyType). eqb type (type_number kind)))
     (λ a. next (renewal_checked (type_in (type_numbered type)) number count seed) _ _ _ (go (is_init (type_in (type_numbered type))))
     (λ b. room_rows_lem room (text_by_numbers type password number count seed new))))
   where
-    go : (b : Bool) → Follows (cond b (new_checked number count seed) Checked.Good) (cond b (new_rows number count seed) [])
+    go : (b : Bool) → Follows (cond b (new_checked number count seed) (Ok tt)) (cond b (new_rows number count seed) [])
     go true = new_rows_lem number count seed
-    go false = no_rows Checked.Good refl
+    go false = no_rows (Ok tt) refl

@@ -1,11 +1,10 @@
 -- The refusals of the table's calls go by their rows, in tables that calls make.
-use Rattle.std.specs.Prelude.{ℕ, ◌+◌, ◌-◌, ◌≤◌, ◌≡◌, refl, Bool, true, false, cond, not, ◌&&◌, List, [], ◌++◌, eqb, leb, ltb, length}
+use Rattle.std.specs.Prelude.{ℕ, ◌+◌, ◌-◌, ◌≤◌, ◌≡◌, refl, Bool, true, false, cond, not, ◌&&◌, List, [], ◌++◌, eqb, leb, ltb, length, Ok, Err}
 use Rattle.std.proofs.Common.{arith, sym, ap, ◌∙◌, subst, eq-eqb, ne_eqb, ltb-true, ltb-false, le-ltb, le-leb}
 use Rattle.std.proofs.Math.Bool.{not-not}
 use Rattle.std.proofs.lemmas.Bool.{lt-leb}
 use Rattle.refusal.specs.declared.Refusal.{Refusal}
-use Rattle.refusal.specs.declared.Checked.{Checked}
-use Rattle.refusal.specs.declared.Written.{Written}
+use Rattle.refusal.specs.Answers.{Checked}
 use Rattle.refusal.specs.Checks.{unless}
 use Rattle.refusal.specs.Each.{each_get}
 use Rattle.refusal.specs.Laws.{must-true}
@@ -16,7 +15,7 @@ use Rattle.password.specs.Password.{bytes_of, hash}
 use Rattle.challenge.specs.Challenges.{challenge_written_by}
 use Rattle.port.specs.declared.Port.{Port}
 use Rattle.accounts.specs.Rooms.{Room}
-use Rattle.table.specs.declared.Replied.{Replied}
+use Rattle.table.specs.Answers.{Replied}
 use Rattle.table.specs.Table.{State, Held, fresh_port, holds, is_there, account_of, port_of, stands_at, waits, own_account, has_turn}
 use Rattle.table.specs.TableChecks.{account_held}
 use Rattle.table.specs.Steps as Steps
@@ -84,13 +83,13 @@ enrol_rows id number count seed password s m =
     (λ b. then_check (algorithm_checked (numbered number)) _ (algorithm_rows number) _ (algorithm_rows_lem number)
     (λ c. then_check (seed_checked seed) _ (seed_rows seed) _ (seed_rows_lem seed)
     (λ d. then_test (not (is_there id s)) _ Refusal.IdTaken _ _ (not-not (is_there id s))
-    (λ e. then_test (holds 0 s.rooms) _ Refusal.TableFull _ _ (full s.rooms m.room_count) (λ f. no_rows Checked.Good refl)))))))
-    (λ e. no_rows Checked.Good refl)
+    (λ e. then_test (holds 0 s.rooms) _ Refusal.TableFull _ _ (full s.rooms m.room_count) (λ f. no_rows (Ok tt) refl)))))))
+    (λ e. no_rows (Ok tt) refl)
 
 pub remove_rows : (id : ℕ) (s : State) → Follows (settled_checked (Steps.remove id s)) (conditions_of (Call.Remove id) s)
 unfolding Steps.remove
 remove_rows id s =
-    behind_test settled_checked (refused s) (λ why. refl) (is_there id s) _ Refusal.AccountMissing _ [] refl (λ e. no_rows Checked.Good refl)
+    behind_test settled_checked (refused s) (λ why. refl) (is_there id s) _ Refusal.AccountMissing _ [] refl (λ e. no_rows (Ok tt) refl)
 
 pub join_rows : (port id : ℕ) (s : State) → Made s → Follows (settled_checked (Steps.join port id s)) (conditions_of (Call.Join port id) s)
 unfolding Steps.join join_checked
@@ -101,16 +100,16 @@ join_rows port id s m =
     (λ b. then_test (not (waits port s)) _ Refusal.PortInLine _ _ (not-not (waits port s))
     (λ c. then_test (eqb (port_of port s).shut 0) _ Refusal.PortShut _ _ refl
     (λ d. then_test (ltb 1 (account_of id s).count) _ Refusal.AccountUsedUp _ _
-    (used_up (account_of id s).count (account_good id s b m.good).count_from) (λ e. no_rows Checked.Good refl))))))
-    (λ e. no_rows Checked.Good refl)
+    (used_up (account_of id s).count (account_good id s b m.good).count_from) (λ e. no_rows (Ok tt) refl))))))
+    (λ e. no_rows (Ok tt) refl)
 
 pub leave_rows : (port : ℕ) (s : State) → Follows (settled_checked (Steps.leave port s)) (conditions_of (Call.Leave port) s)
 unfolding Steps.leave leave_checked
 leave_rows port s =
     behind settled_checked (refused s) (λ why. refl) _ _ (conditions_of (Call.Leave port) s) []
     (then_test (leb port 3) _ Refusal.PortUnknown _ _ (not-leb port 3)
-    (λ a. then_test (waits port s) _ Refusal.PortNotInLine _ _ refl (λ b. no_rows Checked.Good refl)))
-    (λ e. no_rows Checked.Good refl)
+    (λ a. then_test (waits port s) _ Refusal.PortNotInLine _ _ refl (λ b. no_rows (Ok tt) refl)))
+    (λ e. no_rows (Ok tt) refl)
 
 -- ---- Challenge, and Offer, also of a renewal
 
@@ -126,14 +125,14 @@ turn_rows_lem port s m =
     then_check (account_held (own_account port s)) _ [] _
     (no_rows _ (must-true Refusal.AccountMissing (ap not (ne_eqb (own_account port s).id 0 there))))
     (λ d. then_test (ltb 1 (own_account port s).count) _ Refusal.AccountUsedUp _ _
-    (used_up (own_account port s).count (held_good (stands_at port s.rooms) s m.good there).count_from) (λ e. no_rows Checked.Good refl)))))
+    (used_up (own_account port s).count (held_good (stands_at port s.rooms) s m.good there).count_from) (λ e. no_rows (Ok tt) refl)))))
 
 -- The challenge writer's own checks, 23, 24 and 13, find nothing wrong with a good account.
 pub challenge_rows_lem : (port room : ℕ) (s : State) → Made s
     → Follows (written_checked (Steps.challenge port room s)) (conditions_of (Call.Challenge port room) s)
 unfolding Steps.challenge challenge_written_by
 challenge_rows_lem port room s m =
-    behind written_checked Written.Refused (λ why. refl) (turn_checked port s) _ (turn_rows port s) _ (turn_rows_lem port s m)
+    behind written_checked Err (λ why. refl) (turn_checked port s) _ (turn_rows port s) _ (turn_rows_lem port s m)
     (λ e.
     let seed = (own_account port s).seed in
     let count = (own_account port s).count - 1 in
@@ -168,7 +167,7 @@ pub offer_rows : (port password : ℕ) (s : State) → Made s
     → Follows (replied_checked (Steps.offer port password s)) (conditions_of (Call.Offer port password) s)
 offer_rows port password s m =
     subst (λ (a : After Replied). Follows (replied_checked a) (conditions_of (Call.Offer port password) s)) (sym (offer-offers port password s))
-    (offers-rows port (Offered.Login password) [] s m (no_rows Checked.Good refl))
+    (offers-rows port (Offered.Login password) [] s m (no_rows (Ok tt) refl))
 
 pub renewal_rows : (port number count : ℕ) (seed : List ℕ) (new password : ℕ) (s : State) → Made s
     → Follows (replied_checked (Steps.offer_renewal port number count seed new password s))

@@ -1,10 +1,10 @@
 -- R-5, call by call: when 63 is given, and what a renewal, another call and a refusal leave of the seeds that an account remembers.
-use Rattle.std.specs.Prelude.{ℕ, ◌↔◌, Bool, true, false, not, ◌&&◌, leb, take}
+use Rattle.std.specs.Prelude.{ℕ, ◌↔◌, Bool, true, false, not, ◌&&◌, leb, take, Ok, Err}
 use Rattle.std.proofs.Common.{arith, sym, ◌∙◌, subst, true≢false}
 use Rattle.std.proofs.Math.Path.{◌≡◌, refl, ap, ap₂}
 use mathlib.Core.List.{List, [], ◌∷◌, map}
 use Rattle.refusal.specs.declared.Refusal.{Refusal}
-use Rattle.refusal.specs.declared.Checked.{Checked}
+use Rattle.refusal.specs.Answers.{Checked}
 use Rattle.refusal.specs.Numbers.{listing_of}
 use Rattle.refusal.specs.Checks.{must, unless, in_order}
 use Rattle.refusal.specs.Laws.{in_parts}
@@ -14,7 +14,7 @@ use Rattle.password.specs.Algorithm.{numbered, algorithm_checked}
 use Rattle.password.specs.PhraseAndSeed.{seed_checked}
 use Rattle.accounts.specs.Rooms.{Room, remembered}
 use Rattle.accounts.specs.Accounts.{count_within, is_one_of, seed_other, values_checked}
-use Rattle.table.specs.declared.Replied.{Replied}
+use Rattle.table.specs.Answers.{Replied}
 use Rattle.table.specs.Table.{State, Held, is_there, account_of, own_account}
 use Rattle.table.specs.Steps.{reply_refused, turn_checked, renew_checked, compared}
 use Rattle.reached.specs.Calls.{Call, Answer, replied_answer, answer, after}
@@ -50,7 +50,7 @@ module _ (p number count : ℕ) (seed : List ℕ) (new present : ℕ) (c : Call)
     abbrev is_remembered : Bool
     is_remembered = is_one_of (map lower_of seed) (remembered (own_account p s))
 
-    before_other : in_order before ≡ Checked.Refused Refusal.SeedSame → ⊥
+    before_other : in_order before ≡ Err Refusal.SeedSame → ⊥
     before_other =
         then_never (63 ∷ []) Refusal.SeedSame refl (turn_checked p s) _ (turn_never (63 ∷ []) Refusal.SeedSame refl p s refl)
         (rows_never (63 ∷ []) Refusal.SeedSame refl
@@ -58,24 +58,24 @@ module _ (p number count : ℕ) (seed : List ℕ) (new present : ℕ) (c : Call)
 
     -- What is compared isn't refused with it, and so it is the checks.
     checks_refuse : (replied_answer (offers p what s).answer ≡ Answer.Refused Refusal.SeedSame)
-        ↔ (renew_checked p number count seed s ≡ Checked.Refused Refusal.SeedSame)
+        ↔ (renew_checked p number count seed s ≡ Err Refusal.SeedSame)
     unfolding offers renew_checked values_checked
     checks_refuse = by (renew_checked p number count seed s)
       where
         by : (k : Checked)
             → (replied_answer (unless (reply_refused s) k (compared p (present_in what) (next_of what (own_account p s)) s)).answer
             ≡ Answer.Refused Refusal.SeedSame)
-            ↔ (k ≡ Checked.Refused Refusal.SeedSame)
-        by Checked.Good = (
+            ↔ (k ≡ Err Refusal.SeedSame)
+        by (Ok _) = (
           λ e. absurd (compared_other Refusal.SeedSame refl p (present_in what) (next_of what (own_account p s)) s e),
           λ e. let z : ◌≡◌ {A = ℕ} 0 1 = cc in absurd (omega arith),
         )
-        by (Checked.Refused why) = (
-          λ e. let one : why ≡ Refusal.SeedSame = cc in ap Checked.Refused one,
+        by (Err why) = (
+          λ e. let one : why ≡ Refusal.SeedSame = cc in ap Err one,
           λ e. let one : why ≡ Refusal.SeedSame = cc in ap Answer.Refused one,
         )
 
-    pub remembered_exactly : (answer c s ≡ Answer.Refused Refusal.SeedSame) ↔ ((in_order before ≡ Checked.Good) × (is_remembered ≡ true))
+    pub remembered_exactly : (answer c s ≡ Answer.Refused Refusal.SeedSame) ↔ ((in_order before ≡ Ok tt) × (is_remembered ≡ true))
     unfolding renew_checked
     remembered_exactly = (
       λ e.
@@ -83,16 +83,16 @@ module _ (p number count : ℕ) (seed : List ℕ) (new present : ℕ) (c : Call)
           (parted ∙ checks_refuse.0 (sym did ∙ e)) in
           (parts.0, is_one is_remembered parts.1),
       λ h. did ∙ checks_refuse.1
-          (sym parted ∙ ap₂ (λ (k : Checked) (b : Bool). unless Checked.Refused k (in_order (must (not b) Refusal.SeedSame ∷ []))) h.0 h.1),
+          (sym parted ∙ ap₂ (λ (k : Checked) (b : Bool). unless Err k (in_order (must (not b) Refusal.SeedSame ∷ []))) h.0 h.1),
     )
       where
         did : answer c s ≡ replied_answer (offers p what s).answer
         did = (call_offers p what c s own).0
 
-        parted : unless Checked.Refused (in_order before) (in_order (seed_other seed (own_account p s) ∷ [])) ≡ renew_checked p number count seed s
+        parted : unless Err (in_order before) (in_order (seed_other seed (own_account p s) ∷ [])) ≡ renew_checked p number count seed s
         parted = in_parts before (seed_other seed (own_account p s) ∷ [])
 
-        is_one : (b : Bool) → must (not b) Refusal.SeedSame ≡ Checked.Refused Refusal.SeedSame → b ≡ true
+        is_one : (b : Bool) → must (not b) Refusal.SeedSame ≡ Err Refusal.SeedSame → b ≡ true
         is_one true e = refl
         is_one false e = let z : ◌≡◌ {A = ℕ} 0 1 = cc in absurd (omega arith)
 
@@ -162,9 +162,9 @@ module _ (s : State) (i : ℕ) (h : is_there i s ≡ true) where
           (λ f. (unrenewed_keeps s i h c (login_keeps p i what c own f)).1)
 
       by : (a : Replied) → answer c s ≡ replied_answer a → remembered (account_of i (after c s)) ≡ remembered (account_of i s)
-      by (Replied.Accepted answered) e =
+      by (Ok answered) e =
           cases (has_turn_for p i s) (turn answered e) (λ f. ap remembered (other_port_keeps p i what c s own h f))
-      by (Replied.Refused why) e = ap remembered (refused_keeps why c s e i)
+      by (Err why) e = ap remembered (refused_keeps why c s e i)
 
   -- It remembers what it did, if the call doesn't remove it; on any table.
   pub unrenewed_remembers : (c : Call) → keeps_account i c ≡ true → (Renews i s c → ⊥)

@@ -16,24 +16,10 @@ use Rattle.password.specs.Algorithm.{algorithm_name}
 use Rattle.password.specs.PhraseAndSeed.{plain}
 use Rattle.password.specs.Password.{fold, fold_words, number_after, bytes_of, hash}
 use Rattle.hex_text.specs.Hex.{hex_of, sixteen_digits, hex_reading}
-use Rattle.extended.specs.declared.reply_texts.ReplyText.{ReplyText}
 use Rattle.extended.specs.ReplyTypes.{type_name}
 use Rattle.extended.specs.Parameters.{word_at, word_after, trimmed, parameters_of}
-use Rattle.extended.specs.ReplyTexts.{
-  part_at,
-  present_at,
-  parameters_at,
-  new_at,
-  colons,
-  password_by,
-  renewal_in,
-  typed_in,
-  layout_checked,
-  extended_of,
-  said_in,
-  reply_text_of,
-  seed_part,
-}
+use Rattle.extended.specs.ReplyTexts.{part_at, present_at, parameters_at, new_at, colons, password_by, renewal_in}
+use Rattle.extended.specs.ReplyTexts.{typed_in, layout_checked, extended_of, said_in, reply_text_of, seed_part, a_renewal}
 use Rattle.line.specs.Line.{some, others, turn_without, left}
 use Rattle.accounts.specs.Accounts.{is_one_of}
 use Rattle.table.specs.Table.{fresh, place_of, account_of, in_lines, stands_at}
@@ -82,7 +68,7 @@ abbrev pub renewing_text : List ℕ
 renewing_text = codes "init-hex:0000 0000 0000 0005:sha1 3 lift2:" ++ hex_of (hash Algorithm.Sha1 (bytes_of 6))
 
 pub init_reads :
-    (reply_text_of renewing_text ≡ ReplyText.Renewal 2 3 36 5 (hash Algorithm.Sha1 (bytes_of 6)) 5) × (seed_part renewing_text 36 5 ≡ codes "lift2")
+    (reply_text_of renewing_text ≡ a_renewal 2 3 36 5 (hash Algorithm.Sha1 (bytes_of 6)) 5) × (seed_part renewing_text 36 5 ≡ codes "lift2")
 unfolding reply_text_of said_in colons part_at present_at parameters_at new_at password_by renewal_in typed_in layout_checked extended_of word_at word_after
     trimmed
     parameters_of type_name algorithm_name is_count run_of every same codes sixteen_digits hex_reading parted unspaced digits_of Digits.number_after hash fold

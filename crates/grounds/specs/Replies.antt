@@ -1,5 +1,5 @@
 -- What an accepted login and an accepted renewal do, and which passwords are accepted.
-use Rattle.std.specs.Prelude.{ℕ, zero, suc, ◌+◌, ◌≤◌, ◌<◌, ◌≡◌, Bool, cond, List, [], ◌∷◌, map, leb, length, get_or, set}
+use Rattle.std.specs.Prelude.{ℕ, zero, suc, ◌+◌, ◌≤◌, ◌<◌, ◌≡◌, Bool, cond, List, [], ◌∷◌, map, leb, length, get_or, set, Some, Ok, Err}
 use Rattle.std.proofs.Common.{arith, sym, ap, ◌∙◌, subst, true≢false, get_or-set_same}
 use Rattle.std.proofs.Math.Path.{refl}
 use Rattle.std.proofs.Math.Bool.{true, false}
@@ -8,16 +8,14 @@ use Rattle.std.proofs.Math.Dec.{eqb}
 use Rattle.text.specs.Kinds.{lower_of}
 use Rattle.text.specs.Tests.{both}
 use Rattle.refusal.specs.declared.Refusal.{Refusal}
-use Rattle.refusal.specs.declared.Checked.{Checked}
+use Rattle.refusal.specs.Answers.{Checked}
 use Rattle.refusal.specs.Checks.{unless}
 use Rattle.refusal.specs.Laws.{must_good, both_good}
-use Rattle.password.specs.declared.algorithm.Named.{Named}
 use Rattle.password.specs.Algorithm.{numbered}
 use Rattle.password.specs.AlgorithmLaws.{checked_known}
 use Rattle.password.specs.Password.{bytes_of, hash}
 use Rattle.line.specs.Line.{Waiting, left}
 use Rattle.accounts.specs.Rooms.{Room, remembered}
-use Rattle.table.specs.declared.Replied.{Replied}
 use Rattle.table.specs.Table.{State, Held, free_room, stands_at, waits, own_room, own_account, has_turn, lined}
 use Rattle.table.specs.Steps as Steps
 use Rattle.accounts.specs.Accounts.{is_one_of, lowered}
@@ -50,7 +48,7 @@ accepted_account p next s inside =
 -- What was offered and accepted with the answer `count`: its checks found nothing wrong, and its hash, by the account's algorithm, is the one
 -- stored. The account becomes what it makes of it.
 pub record Taken (p count : ℕ) (what : Offered) (s state : State) : Type 0 where
-  pub checked : offer_checked p what s ≡ Checked.Good
+  pub checked : offer_checked p what s ≡ Ok tt
   pub hashed : hash (own_account p s).algorithm (bytes_of (present_in what)) ≡ (own_account p s).password
   pub answered : count ≡ (next_of what (own_account p s)).count
   pub left : state ≡ (Steps.accepted p (next_of what (own_account p s)) s).state
@@ -62,7 +60,7 @@ module _ (p n : ℕ) (what : Offered) (s : State) where
   abbrev old : Room
   old = own_account p s
 
-  compared_taken : offer_checked p what s ≡ Checked.Good
+  compared_taken : offer_checked p what s ≡ Ok tt
       → replied_answer (compared p (present_in what) (next_of what old) s).answer ≡ Answer.Count n
       → Taken p n what s (compared p (present_in what) (next_of what old) s).state
   unfolding compared
@@ -86,8 +84,8 @@ module _ (p n : ℕ) (what : Offered) (s : State) where
       go : (k : Checked) → offer_checked p what s ≡ k
           → replied_answer (unless (reply_refused s) k (compared p (present_in what) (next_of what old) s)).answer ≡ Answer.Count n
           → Taken p n what s (unless (reply_refused s) k (compared p (present_in what) (next_of what old) s)).state
-      go (Checked.Refused why) f e = not_accepted why n e
-      go Checked.Good f e = compared_taken f e
+      go (Err why) f e = not_accepted why n e
+      go (Ok _) f e = compared_taken f e
 
   -- Of the call.
   pub call_taken : (c : Call) → Offers p what c → answer c s ≡ Answer.Count n → Taken p n what s (after c s)
@@ -105,12 +103,12 @@ module _ (p n : ℕ) (what : Offered) (s : State) where
         ap (waited_for p s) r.left ∙ accepted_account p (next_of what old) s (ltb-true (stands_at p s.rooms) (length s.rooms) taken_turn.inside)
 
 -- Of the two offers, by what they answer.
-pub login_taken : (p n password : ℕ) (s : State) → (offer p password s).answer ≡ Replied.Accepted n
+pub login_taken : (p n password : ℕ) (s : State) → (offer p password s).answer ≡ Ok n
     → Taken p n (Offered.Login password) s (offer p password s).state
 login_taken p n password s e = call_taken p n (Offered.Login password) s (Call.Offer p password) (Offers.by_offer password) (ap replied_answer e)
 
 pub renewal_taken : (p n number count : ℕ) (seed : List ℕ) (new present : ℕ) (s : State)
-    → (offer_renewal p number count seed new present s).answer ≡ Replied.Accepted n
+    → (offer_renewal p number count seed new present s).answer ≡ Ok n
     → Taken p n (Offered.Renewal number count seed new present) s (offer_renewal p number count seed new present s).state
 renewal_taken p n number count seed new present s e =
     call_taken p n (Offered.Renewal number count seed new present) s (Call.OfferRenewal p number count seed new present)
@@ -150,7 +148,7 @@ taken_renews p n number count seed new present s state r =
       r.answered,
       record {
         becomes = becomes;
-        known = checked_known (numbered number) passed.algorithm ∙ ap (λ (room : Room). Named.Is room.algorithm) (sym becomes);
+        known = checked_known (numbered number) passed.algorithm ∙ ap (λ (room : Room). Some room.algorithm) (sym becomes);
         other = not-true (is_one_of (map lower_of seed) (remembered (own_account p s))) (must_good _ _ passed.new);
         unused = subst (λ (room : Room). 1 < room.count) (sym becomes) (omega arith);
         old_is_hash = sym r.hashed;
@@ -160,11 +158,11 @@ taken_renews p n number count seed new present s state r =
 -- ---- a password that is accepted
 
 pub turn_checked_lem : (p : ℕ) (s : State) → p ≤ 3 → waits p s ≡ true → has_turn p s ≡ true → ((own_account p s).id ≡ 0 → ⊥)
-    → 1 < (own_account p s).count → turn_checked p s ≡ Checked.Good
+    → 1 < (own_account p s).count → turn_checked p s ≡ Ok tt
 unfolding turn_checked
 turn_checked_lem p s k l f t u = rw (le-leb p 3 k, l, f, ne_eqb (own_account p s).id 0 t, lt-ltb 1 (own_account p s).count u)
 
-pub offer-accepted : (p w : ℕ) (s : State) → turn_checked p s ≡ Checked.Good
+pub offer-accepted : (p w : ℕ) (s : State) → turn_checked p s ≡ Ok tt
     → hash (own_account p s).algorithm (bytes_of w) ≡ (own_account p s).password
     → offer p w s ≡ Steps.accepted p (lowered (own_account p s) w) s
 unfolding offer compared

@@ -1,12 +1,11 @@
 -- R-5: of the seeds that an account has one after the other it remembers the last eight, and any nine are different.
-use Rattle.std.specs.Prelude.{ℕ, zero, suc, ◌+◌, ◌-◌, ◌≤◌, ◌<◌, ◌≡◌, refl, Bool, true, false, cond, ◌||◌, length, get_or, take, drop}
+use Rattle.std.specs.Prelude.{ℕ, zero, suc, ◌+◌, ◌-◌, ◌≤◌, ◌<◌, ◌≡◌, refl, Bool, true, false, cond, ◌||◌, length, get_or, take, drop, Ok}
 use Rattle.std.proofs.Common.{arith, not-suc-le-zero, le_of_suc-le-suc, sym, ap, ap₂, ◌∙◌, subst, true≢false, length-take, length-drop, drop-cons}
 use Rattle.std.proofs.Common.{get_or-drop, take_all, take-take}
 use Rattle.std.proofs.Math.Decide.{dec_le}
 use Rattle.std.proofs.Math.Bool.{or-true}
 use mathlib.Core.List.{List, [], ◌∷◌, ◌++◌, reverse, reverse_aux-eq, reverse-cons}
 use Rattle.std.proofs.Math.Seq.{drop-nil}
-use Rattle.refusal.specs.declared.Checked.{Checked}
 use Rattle.text.specs.Tests.{every, same, both, cases, same_equal, same_self}
 use Rattle.accounts.specs.Rooms.{Room, remembered}
 use Rattle.accounts.specs.Accounts.{is_one_of}
@@ -123,7 +122,7 @@ last_eight i (c ∷ calls) s h q few =
     ∙ step_last (account_of i s) (account_of i (after c s)) (following i calls (after c s)) did.1
 
 -- From its enrolment on, with one seed remembered then, they are the last eight of all that it has had.
-pub eight_since_enrolled : (i number count : ℕ) (seed password : List ℕ) (s : State) → (enrol i number count seed password s).answer ≡ Checked.Good
+pub eight_since_enrolled : (i number count : ℕ) (seed password : List ℕ) (s : State) → (enrol i number count seed password s).answer ≡ Ok tt
     → (calls : List Call) → every (keeps_account i) calls ≡ true
     → remembered (account_of i (run calls (enrol i number count seed password s).state))
     ≡ take 8 (reverse (seeds_along i calls (enrol i number count seed password s).state))

@@ -1,5 +1,5 @@
 -- Along quiet calls a waiting port comes to the front of its account's line before its ticks have passed, and then has a whole turn.
-use Rattle.std.specs.Prelude.{ℕ, ◌-◌, ◌≤◌, ◌≡◌, refl, true, false}
+use Rattle.std.specs.Prelude.{ℕ, ◌-◌, ◌≤◌, ◌≡◌, refl, true, false, Ok}
 use Rattle.std.proofs.Common.{zero-le, arith, sym, ◌∙◌, subst, true≢false}
 use Rattle.std.proofs.Math.Path.{ap}
 use Rattle.std.proofs.Math.Bool.{or-true}
@@ -7,7 +7,6 @@ use mathlib.Core.List.{List, [], ◌∷◌, ◌++◌}
 use Rattle.text.specs.Tests.{every, cases, both}
 use Rattle.line.specs.Line as Line
 use Rattle.line.specs.Line.{Waiting, of_port, some, first, front_of}
-use Rattle.refusal.specs.declared.Checked.{Checked}
 use Rattle.table.specs.Table.{State, Held, fresh, line_of, is_front}
 use Rattle.table.specs.Steps.{join}
 use Rattle.reached.specs.Calls.{Call, after, run}
@@ -93,7 +92,7 @@ all_meanwhile p i (c ∷ cs) s q =
 -- ---- joining
 
 -- A port whose Join is done waits at most 180 ticks.
-pub joined_waits : (p i : ℕ) (s : State) → Made s → (join p i s).answer ≡ Checked.Good
+pub joined_waits : (p i : ℕ) (s : State) → Made s → (join p i s).answer ≡ Ok tt
     → Made (join p i s).state × Waits p (line_of i (join p i s).state) 180 × WholeIfFront p (line_of i (join p i s).state)
 joined_waits p i s m e =
     let facts = joined_held p i s m e in

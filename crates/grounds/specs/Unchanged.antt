@@ -1,12 +1,12 @@
 -- A refusal changes no table, except 61 and 62.
-use Rattle.std.specs.Prelude.{ℕ, ◌+◌, Bool, cond, [], ◌∷◌, eqb}
+use Rattle.std.specs.Prelude.{ℕ, ◌+◌, Bool, cond, [], ◌∷◌, eqb, Ok, Err}
 use native.Mathlib.Omega.{arith}
 use Rattle.std.proofs.Math.Path.{◌≡◌, refl}
 use Rattle.std.proofs.Common.{sym, ap, ◌∙◌, true≢false}
 use Rattle.std.proofs.Math.Bool.{true, false}
 use Rattle.std.proofs.Math.Dec.{leb}
 use Rattle.refusal.specs.declared.Refusal.{Refusal}
-use Rattle.refusal.specs.declared.Checked.{Checked}
+use Rattle.refusal.specs.Answers.{Checked}
 use Rattle.refusal.specs.Numbers.{listing_of}
 use Rattle.refusal.specs.Checks.{unless}
 use Rattle.password.specs.Password.{bytes_of, hash}
@@ -22,8 +22,8 @@ use Rattle.grounds.specs.Listed.{is_in}
 
 settled_unchanged : (s s' : State) (why : Refusal) (check : Checked)
     → checked_answer (unless (refused s) check (done s')).answer ≡ Answer.Refused why → (unless (refused s) check (done s')).state ≡ s
-settled_unchanged s s' why Checked.Good e = let z : ◌≡◌ {A = ℕ} 0 1 = cc in absurd (omega arith)
-settled_unchanged s s' why (Checked.Refused w) e = refl
+settled_unchanged s s' why (Ok _) e = let z : ◌≡◌ {A = ℕ} 0 1 = cc in absurd (omega arith)
+settled_unchanged s s' why (Err w) e = refl
 
 module _ (why : Refusal) (other : is_in (listing_of why).0 (61 ∷ 62 ∷ []) ≡ false) where
   wrong_is : (w : Refusal) → is_in (listing_of w).0 (61 ∷ 62 ∷ []) ≡ true → Answer.Refused w ≡ Answer.Refused why → ⊥
@@ -52,8 +52,8 @@ module _ (why : Refusal) (other : is_in (listing_of why).0 (61 ∷ 62 ∷ []) �
       go : (k : Checked)
           → replied_answer (unless (reply_refused s) k (compared port (present_in what) (next_of what (own_account port s)) s)).answer ≡ Answer.Refused why
           → (unless (reply_refused s) k (compared port (present_in what) (next_of what (own_account port s)) s)).state ≡ s
-      go (Checked.Refused w) e = refl
-      go Checked.Good e = absurd (compared_other port (present_in what) (next_of what (own_account port s)) s e)
+      go (Err w) e = refl
+      go (Ok _) e = absurd (compared_other port (present_in what) (next_of what (own_account port s)) s e)
 
   offer_unchanged : (port : ℕ) (what : Offered) (c : Call) (s : State) → Offers port what c → answer c s ≡ Answer.Refused why → after c s ≡ s
   offer_unchanged port what c s p e =

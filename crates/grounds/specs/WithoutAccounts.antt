@@ -1,12 +1,11 @@
 -- What each call answers in a table with no account, and what it leaves.
-use Rattle.std.specs.Prelude.{ℕ, suc, ◌≡◌, Bool, true, false, cond, not, eqb, length}
+use Rattle.std.specs.Prelude.{ℕ, suc, ◌≡◌, Bool, true, false, cond, not, eqb, length, Ok, Err}
 use Rattle.std.proofs.Common.{arith, le_refl, sym, ◌∙◌, eqb-true, eq-eqb, ne_eqb, le-ltb, lt-ltb}
 use Rattle.std.proofs.Math.Decide.{ℕ_discrete}
 use Rattle.std.proofs.Math.Path.{refl, ap, ap₂}
 use mathlib.Core.List.{List, [], ◌∷◌, ◌++◌, map}
 use Rattle.refusal.specs.declared.Refusal.{Refusal}
-use Rattle.refusal.specs.declared.Checked.{Checked}
-use Rattle.refusal.specs.declared.Written.{Written}
+use Rattle.refusal.specs.Answers.{Checked, Written}
 use Rattle.refusal.specs.Checks.{must, unless, in_order}
 use Rattle.refusal.specs.Each.{Each, each_get}
 use Rattle.password.specs.Algorithm.{numbered, algorithm_checked}
@@ -14,7 +13,7 @@ use Rattle.password.specs.PhraseAndSeed.{seed_checked}
 use Rattle.line.specs.Line.{Waiting, empty, some, stands_in, ticked}
 use Rattle.port.specs.Port.{cooled}
 use Rattle.accounts.specs.Accounts.{count_within, new_room}
-use Rattle.table.specs.declared.Replied.{Replied}
+use Rattle.table.specs.Answers.{Replied}
 use Rattle.table.specs.Table.{State, Held, free_room, place_of, holds, is_there, account_of, line_of, stands_at, waits, own_account, lined, with_account}
 use Rattle.table.specs.TableChecks.{id_given, account_there, port_known, not_in_line, port_open, not_used_up, in_line, in_front}
 use Rattle.table.specs.Steps as Steps
@@ -57,38 +56,38 @@ first_free (room ∷ rooms) e h = rw (eq-eqb room.account.id 0 h.0) (refl, lt-lt
 abbrev pub OnlyAnswers : Call → State → Checked → Type 0
 OnlyAnswers c s check = (answer c s ≡ checked_answer check) × (after c s ≡ s)
 
-settled_refused : (s s' : State) (check found : Checked) → check ≡ found → (found ≡ Checked.Good → ⊥)
+settled_refused : (s s' : State) (check found : Checked) → check ≡ found → (found ≡ Ok tt → ⊥)
     → (checked_answer (unless (refused s) check (done s')).answer ≡ checked_answer found) × ((unless (refused s) check (done s')).state ≡ s)
-settled_refused s s' Checked.Good found e n = absurd (n (sym e))
-settled_refused s s' (Checked.Refused why) found e n = (ap checked_answer e, refl)
+settled_refused s s' (Ok _) found e n = absurd (n (sym e))
+settled_refused s s' (Err why) found e n = (ap checked_answer e, refl)
 
-replied_refused : (s : State) (next : After Replied) (check found : Checked) → check ≡ found → (found ≡ Checked.Good → ⊥)
+replied_refused : (s : State) (next : After Replied) (check found : Checked) → check ≡ found → (found ≡ Ok tt → ⊥)
     → (replied_answer (unless (reply_refused s) check next).answer ≡ checked_answer found) × ((unless (reply_refused s) check next).state ≡ s)
-replied_refused s next Checked.Good found e n = absurd (n (sym e))
-replied_refused s next (Checked.Refused why) found e n = (ap checked_answer e, refl)
+replied_refused s next (Ok _) found e n = absurd (n (sym e))
+replied_refused s next (Err why) found e n = (ap checked_answer e, refl)
 
-written_refused : (next : Written) (check found : Checked) → check ≡ found → (found ≡ Checked.Good → ⊥)
-    → written_answer (unless Written.Refused check next) ≡ checked_answer found
-written_refused next Checked.Good found e n = absurd (n (sym e))
-written_refused next (Checked.Refused why) found e n = ap checked_answer e
+written_refused : (next : Written) (check found : Checked) → check ≡ found → (found ≡ Ok tt → ⊥)
+    → written_answer (unless Err check next) ≡ checked_answer found
+written_refused next (Ok _) found e n = absurd (n (sym e))
+written_refused next (Err why) found e n = ap checked_answer e
 
-not_good : {why : Refusal} → Checked.Refused why ≡ Checked.Good → ⊥
+not_good : {why : Refusal} → ◌≡◌ {A = Checked} (Err why) (Ok tt) → ⊥
 not_good e = let z : ◌≡◌ {A = ℕ} 0 1 = cc in omega arith
 
 -- Checks with such a one at their end refuse.
-ends_refused : (checks : List Checked) (why : Refusal) → in_order (checks ++ Checked.Refused why ∷ []) ≡ Checked.Good → ⊥
+ends_refused : (checks : List Checked) (why : Refusal) → in_order (checks ++ Err why ∷ []) ≡ Ok tt → ⊥
 ends_refused [] why e = not_good e
-ends_refused (Checked.Good ∷ checks) why e = ends_refused checks why e
-ends_refused (Checked.Refused w ∷ checks) why e = not_good e
+ends_refused (Ok _ ∷ checks) why e = ends_refused checks why e
+ends_refused (Err w ∷ checks) why e = not_good e
 
 -- ---- the calls, on any such table
 
 -- 54, and 59: what is found where there is no account, and nobody in line.
 abbrev pub missing : Checked
-missing = Checked.Refused Refusal.AccountMissing
+missing = Err Refusal.AccountMissing
 
 abbrev pub outside : Checked
-outside = Checked.Refused Refusal.PortNotInLine
+outside = Err Refusal.PortNotInLine
 
 -- Enrol's own checks: 50, 51, 23, 24.
 abbrev pub own_checks : ℕ → ℕ → ℕ → List ℕ → Checked
@@ -128,8 +127,8 @@ module _ (s : State) (none : accounts_in s.rooms ≡ 0) where
           → (checked_answer (unless (refused s) k (done (with_account place (new_room id number count seed password) s))).answer ≡ checked_answer k)
           × ((unless (refused s) k (done (with_account place (new_room id number count seed password) s))).state
           ≡ unless (λ why. s) k (with_account place (new_room id number count seed password) s))
-      go Checked.Good place = (refl, refl)
-      go (Checked.Refused why) place = (refl, refl)
+      go (Ok _) place = (refl, refl)
+      go (Err why) place = (refl, refl)
 
   pub remove_nobody : (id : ℕ) → OnlyAnswers (Call.Remove id) s missing
   unfolding Steps.remove
@@ -152,7 +151,7 @@ module _ (s : State) (none : accounts_in s.rooms ≡ 0) where
       ∷ not_used_up (own_account port s) ∷ []))
       (each_get Free s.rooms (stands_at port s.rooms) free_room (all_free s.rooms none) refl)
 
-  turn_refuses : (port : ℕ) → in_turn port s ≡ Checked.Good → ⊥
+  turn_refuses : (port : ℕ) → in_turn port s ≡ Ok tt → ⊥
   turn_refuses port = ends_refused (port_known port ∷ in_line port s ∷ in_front port s ∷ []) Refusal.AccountMissing
 
   pub challenge_nobody : (port room : ℕ) → OnlyAnswers (Call.Challenge port room) s (in_turn port s)
@@ -163,9 +162,9 @@ module _ (s : State) (none : accounts_in s.rooms ≡ 0) where
   offer_checks : (port : ℕ) (what : Offered) → offer_checked port what s ≡ in_turn port s
   offer_checks port what = go (turn_checked port s) (turn_checks port)
     where
-      go : (turn : Checked) → turn ≡ in_turn port s → unless Checked.Refused turn (new_values_checked what (own_account port s)) ≡ in_turn port s
-      go Checked.Good e = absurd (turn_refuses port (sym e))
-      go (Checked.Refused why) e = e
+      go : (turn : Checked) → turn ≡ in_turn port s → unless Err turn (new_values_checked what (own_account port s)) ≡ in_turn port s
+      go (Ok _) e = absurd (turn_refuses port (sym e))
+      go (Err why) e = e
 
   pub offers_nobody : (port : ℕ) (what : Offered) (c : Call) → Offers port what c → OnlyAnswers c s (in_turn port s)
   unfolding offers

@@ -1,12 +1,11 @@
 -- What 61 and 62 change, and who is answered with them.
-use Rattle.std.specs.Prelude.{ℕ, ◌-◌, Bool, cond, not, ◌&&◌, List, [], ◌∷◌, map, eqb, ltb, length}
+use Rattle.std.specs.Prelude.{ℕ, ◌-◌, Bool, cond, not, ◌&&◌, List, [], ◌∷◌, map, eqb, ltb, length, Ok, Err}
 use Rattle.std.proofs.Common.{arith, sym, ap, ◌∙◌}
 use Rattle.std.proofs.Math.Path.{◌≡◌, refl}
 use Rattle.std.proofs.Math.Bool.{true, false}
 use Rattle.std.proofs.Math.Dec.{leb}
 use Rattle.refusal.specs.declared.Refusal.{Refusal}
-use Rattle.refusal.specs.declared.Checked.{Checked}
-use Rattle.refusal.specs.declared.Written.{Written}
+use Rattle.refusal.specs.Answers.{Checked}
 use Rattle.refusal.specs.Numbers.{listing_of}
 use Rattle.refusal.specs.Checks.{unless, in_order}
 use Rattle.password.specs.PhraseAndSeed.{seed_checked}
@@ -56,8 +55,8 @@ module _ (why : Refusal) (wrong : is_in (listing_of why).0 (61 ∷ 62 ∷ []) �
   table_other port what s = table_never (61 ∷ 62 ∷ []) why wrong port what s refl (λ number count seed. refl)
 
   settled_other : (s s' : State) (check : Checked) → Other check → checked_answer (unless (refused s) check (done s')).answer ≡ Answer.Refused why → ⊥
-  settled_other s s' Checked.Good n e = let z : ◌≡◌ {A = ℕ} 0 1 = cc in omega arith
-  settled_other s s' (Checked.Refused w) n e = let same : w ≡ why = cc in n (ap Checked.Refused same)
+  settled_other s s' (Ok _) n e = let z : ◌≡◌ {A = ℕ} 0 1 = cc in omega arith
+  settled_other s s' (Err w) n e = let same : w ≡ why = cc in n (ap Err same)
 
   challenge_other : (port room : ℕ) (s : State) → answer (Call.Challenge port room) s ≡ Answer.Refused why → ⊥
   unfolding Steps.challenge challenge_written_by
@@ -67,18 +66,18 @@ module _ (why : Refusal) (wrong : is_in (listing_of why).0 (61 ∷ 62 ∷ []) �
       go (turn_checked port s) (turn_other port s) (seed_checked stored) (seed_never (61 ∷ 62 ∷ []) why wrong stored refl refl)
       (ltb 9999 ((own_account port s).count - 1)) (leb (length text) room) (length text)
     where
-      as_check : (w : Refusal) → Other (Checked.Refused w) → Answer.Refused w ≡ Answer.Refused why → ⊥
-      as_check w n e = let same : w ≡ why = cc in n (ap Checked.Refused same)
+      as_check : (w : Refusal) → Other (Err w) → Answer.Refused w ≡ Answer.Refused why → ⊥
+      as_check w n e = let same : w ≡ why = cc in n (ap Err same)
 
       go : (a : Checked) → Other a → (b : Checked) → Other b → (c d : Bool) (n : ℕ)
-          → written_answer (unless Written.Refused a (unless Written.Refused b
-          (cond c (Written.Refused Refusal.CountHigh) (cond d (Written.Wrote n) (Written.Refused Refusal.BufferShort))))) ≡ Answer.Refused why
+          → written_answer (unless Err a (unless Err b
+          (cond c (Err Refusal.CountHigh) (cond d (Ok n) (Err Refusal.BufferShort))))) ≡ Answer.Refused why
           → ⊥
-      go (Checked.Refused w) k b l c d n e = as_check w k e
-      go Checked.Good k (Checked.Refused w) l c d n e = as_check w l e
-      go Checked.Good k Checked.Good l true d n e = as_check Refusal.CountHigh (other_never (61 ∷ 62 ∷ []) why wrong Refusal.CountHigh refl) e
-      go Checked.Good k Checked.Good l false true n e = let z : ◌≡◌ {A = ℕ} 0 1 = cc in omega arith
-      go Checked.Good k Checked.Good l false false n e = as_check Refusal.BufferShort (other_never (61 ∷ 62 ∷ []) why wrong Refusal.BufferShort refl) e
+      go (Err w) k b l c d n e = as_check w k e
+      go (Ok _) k (Err w) l c d n e = as_check w l e
+      go (Ok _) k (Ok _) l true d n e = as_check Refusal.CountHigh (other_never (61 ∷ 62 ∷ []) why wrong Refusal.CountHigh refl) e
+      go (Ok _) k (Ok _) l false true n e = let z : ◌≡◌ {A = ℕ} 0 1 = cc in omega arith
+      go (Ok _) k (Ok _) l false false n e = as_check Refusal.BufferShort (other_never (61 ∷ 62 ∷ []) why wrong Refusal.BufferShort refl) e
 
   -- ---- a password that is compared
 
@@ -104,8 +103,8 @@ module _ (why : Refusal) (wrong : is_in (listing_of why).0 (61 ∷ 62 ∷ []) �
       go : (k : Checked) → Other k
           → replied_answer (unless (reply_refused s) k (compared port (present_in what) (next_of what (own_account port s)) s)).answer ≡ Answer.Refused why
           → Rejected port s (unless (reply_refused s) k (compared port (present_in what) (next_of what (own_account port s)) s)).state
-      go (Checked.Refused v) n e = let same : v ≡ why = cc in absurd (n (ap Checked.Refused same))
-      go Checked.Good n e = compared_wrong port (present_in what) (next_of what (own_account port s)) s e
+      go (Err v) n e = let same : v ≡ why = cc in absurd (n (ap Err same))
+      go (Ok _) n e = compared_wrong port (present_in what) (next_of what (own_account port s)) s e
 
   -- ---- every call
 

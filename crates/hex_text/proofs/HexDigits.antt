@@ -1,23 +1,24 @@
 -- A text read digit by digit.
+use Rattle.std.specs.Prelude.{Ok, Err, Some, None}
 use Prim.Native.Nat.{ℕ, suc, ◌+◌, ◌*◌, ◌^◌, ◌≤◌, ◌<◌}
 use native.Mathlib.Omega.{arith}
 use native.Mathlib.Nat.{zero-add, add-zero, pow-suc, pow-le-pow_right, lt_of_lt_of_le}
 use native.Mathlib.Numerals.{add-one}
-use mathlib.Core.Path.{◌≡◌, ◌∙◌, ap}
+use mathlib.Core.Path.{◌≡◌, ap}
 use mathlib.Core.Bool.{Bool, true, false, cond, ◌&&◌}
 use mathlib.Core.List.{List, [], ◌∷◌}
+use Rattle.std.specs.Prelude.{Some, None}
 use lib.Arith.{digits_lt}
 use lib.Dec.{eqb}
 use lib.ListN.{length, get_or, drop, drop_of_length-le}
 use lib.Seq.{drop-cons}
-use borrow.Author.Tests.{eq-eqb, ne_eqb, lt-ltb, le-ltb}
+use borrow.Author.Tests.{eq-eqb, ne_eqb, lt-ltb}
 use Rattle.refusal.specs.declared.Refusal.{Refusal}
-use Rattle.refusal.specs.declared.Reading.{Reading}
 use Rattle.text.specs.Kinds.{is_white}
 use Rattle.text.specs.Tests.{every, second_fails}
 use Rattle.text.specs.Scan.{unspaced}
-use Rattle.text.specs.Digits.{is_hex, digit_value, number_after}
-use Rattle.text.specs.DigitLaws.{hex_value}
+use Rattle.text.specs.Digits.{is_hex, digit_found, number_after}
+use Rattle.text.specs.DigitLaws.{hex_value, found_some, found_none}
 use Rattle.hex_text.specs.Hex.{sixteen_digits, hex_reading}
 use Rattle.hex_text.specs.Inside.{hex_after}
 
@@ -41,33 +42,31 @@ unfolding hex_reading sixteen_digits hex_after
 hex_start u = rw zero-add
 
 -- a digit more
-pub hex_digit : (n v b d : ℕ) (u : List ℕ) → d ≡ digit_value b → d < 16 → hex_after n v (b ∷ u) ≡ hex_after (n + 1) (v * 16 + d) u
+pub hex_digit : (n v b d : ℕ) (u : List ℕ) → digit_found b ≡ Some d → hex_after n v (b ∷ u) ≡ hex_after (n + 1) (v * 16 + d) u
 unfolding hex_after number_after every
-hex_digit n v b d u e h =
+hex_digit n v b d u e =
     let count : n + suc (length u) ≡ n + 1 + length u = omega arith in
-    let small : digit_value b < 16 = omega arith in
-    rw (hex_value b, lt-ltb (digit_value b) 16 small, count, e)
+    let here = found_some b d e in
+    rw (hex_value b, here.0, lt-ltb d 16 here.1, count)
 
 -- a byte that is no digit
-pub hex_other : (n v b d : ℕ) (u : List ℕ) → d ≡ digit_value b → 15 < d → hex_after n v (b ∷ u) ≡ Reading.Refused Refusal.ReplyUnread
+pub hex_other : (n v b : ℕ) (u : List ℕ) → digit_found b ≡ None → hex_after n v (b ∷ u) ≡ Err Refusal.ReplyUnread
 unfolding hex_after every
-hex_other n v b d u e h =
-    let large : 16 ≤ digit_value b = omega arith in
-    ap (λ (t : Bool). cond t (Reading.Password (number_after 16 v (b ∷ u))) (Reading.Refused Refusal.ReplyUnread))
-    (second_fails (eqb (n + suc (length u)) 16) (is_hex b && every is_hex u)
-    (ap (λ (t : Bool). t && every is_hex u) (hex_value b ∙ le-ltb (digit_value b) 16 large)))
+hex_other n v b u e =
+    ap (λ (t : Bool). cond t (Ok (number_after 16 v (b ∷ u))) (Err Refusal.ReplyUnread))
+    (second_fails (eqb (n + suc (length u)) 16) (is_hex b && every is_hex u) (ap (λ (t : Bool). t && every is_hex u) (found_none b e)))
 
 -- a seventeenth digit
-pub hex_long : (n v b : ℕ) (u : List ℕ) → n ≡ 16 → hex_after n v (b ∷ u) ≡ Reading.Refused Refusal.ReplyUnread
+pub hex_long : (n v b : ℕ) (u : List ℕ) → n ≡ 16 → hex_after n v (b ∷ u) ≡ Err Refusal.ReplyUnread
 unfolding hex_after
 hex_long n v b u e = rw (ne_eqb (n + suc (length u)) 16 (λ q. omega arith))
 
 -- the end
-pub hex_end : (n v : ℕ) → n ≡ 16 → hex_after n v [] ≡ Reading.Password v
+pub hex_end : (n v : ℕ) → n ≡ 16 → hex_after n v [] ≡ Ok v
 unfolding hex_after number_after every
 hex_end n v e = rw (add-zero, eq-eqb n 16 e)
 
-pub hex_short : (n v : ℕ) → (n ≡ 16 → ⊥) → hex_after n v [] ≡ Reading.Refused Refusal.ReplyUnread
+pub hex_short : (n v : ℕ) → (n ≡ 16 → ⊥) → hex_after n v [] ≡ Err Refusal.ReplyUnread
 unfolding hex_after every
 hex_short n v e = rw (add-zero, ne_eqb n 16 e)
 

@@ -16,9 +16,9 @@ pub fn write_hex(password: u64, buf: &mut [u8]) -> Written
     ensures { Writes (hex_of password) buf.old buf.new result }
 {
     if buf.len() < 16 {
-        return Written::Refused(Refusal::BufferShort);
+        return Err(Refusal::BufferShort);
     }
-    Written::Wrote(spell(buf, password, 16, 16))
+    Ok(spell(buf, password, 16, 16))
 }
 
 // The password whose sixteen digits are the text without its white space.
@@ -27,25 +27,21 @@ pub fn read_hex(s: &[u8]) -> Reading
 {
     let mut value: u64 = 0;
     let mut n: usize = 0;
-    let mut i = 0;
-    while i < s.len() {
-        let b = s[i];
-        i += 1;
-        if is_white(b) {
+    for b in s {
+        if is_white(*b) {
             continue;
         }
-        let d = digit_value(b);
-        if 15 < d {
-            return Reading::Refused(Refusal::ReplyUnread);
-        }
+        let Some(d) = digit_value(*b) else {
+            return Err(Refusal::ReplyUnread);
+        };
         if n == 16 {
-            return Reading::Refused(Refusal::ReplyUnread);
+            return Err(Refusal::ReplyUnread);
         }
-        value = value * 16 + d as u64;
+        value = value * 16 + u64::from(d);
         n += 1;
     }
     if n == 16 {
-        return Reading::Password(value);
+        return Ok(value);
     }
-    Reading::Refused(Refusal::ReplyUnread)
+    Err(Refusal::ReplyUnread)
 }

@@ -7,9 +7,8 @@ use borrow.Author.Tests.{eqb-true, ltb-true, ltb-false, eq-eqb, ne_eqb}
 use native.Mathlib.Omega.{arith}
 use lib.Dec.{eqb, ltb}
 use Rattle.line.specs.declared.Place.{Place}
-use Rattle.line.specs.declared.Change.{Change}
 use Rattle.line.specs.Line.{Waiting, empty, of_port, start, started, others, turn_without, left, ticked, is_for, ports_for, turn_for, line_for}
-use Rattle.line.specs.Inside.{room_in, taken, stays, step, changed, is_of, same, leaves, turn_after}
+use Rattle.line.specs.Inside.{room_in, taken, stays, step, changed, is_of, same, is_for_room, runs_out, less}
 use Rattle.line.specs.Laws.{line_of, turn_none}
 use Rattle.line.proofs.Taken.{taken_last}
 
@@ -134,7 +133,7 @@ last_tick turn = by (ltb turn 2) refl
     by true e = let h = ltb-true turn 2 e in sym (eq-eqb (turn - 1) 0 (omega arith))
     by false e = let h = ltb-false turn 2 e in sym (ne_eqb (turn - 1) 0 (λ z. omega arith))
 
-tick_line : (ports : List ℕ) (turn : ℕ) → changed_line (λ q turn. ltb turn 2) (λ q. false) (turn_after Change.Tick) ports turn ≡ ticked (line_of ports turn)
+tick_line : (ports : List ℕ) (turn : ℕ) → changed_line (λ q turn. ltb turn 2) (λ q. false) less ports turn ≡ ticked (line_of ports turn)
 unfolding ticked
 tick_line [] turn = refl
 tick_line (q ∷ ports) turn =
@@ -155,16 +154,15 @@ changed_leave port room l =
     ∙ leave_line port (ports_for room l) (turn_for room l)
 
 -- One room's line is emptied.
-pub changed_remove : (at room : ℕ) (l : List Place) → let change = Change.Remove at in
-    line_for room (changed (leaves change) (turn_after change) [] l) ≡ cond (eqb room at) empty (line_for room l)
+pub changed_remove : (at room : ℕ) (l : List Place) →
+    line_for room (changed (is_for_room at) same [] l) ≡ cond (eqb room at) empty (line_for room l)
 changed_remove at room l =
-    let change = Change.Remove at in
-    line_changed (leaves change) (turn_after change) room (λ q turn. eqb room at) (λ q. eqb room at)
+    line_changed (is_for_room at) same room (λ q turn. eqb room at) (λ q. eqb room at)
     (λ p e. ap (λ (k : ℕ). eqb k at) e) (λ p e. ap (λ (k : ℕ). eqb k at) e) l
     ∙ remove_line (eqb room at) (ports_for room l) (turn_for room l) (turn_none room l)
 
 -- A tick passes for each line.
-pub changed_tick : (room : ℕ) (l : List Place) → line_for room (changed (leaves Change.Tick) (turn_after Change.Tick) [] l) ≡ ticked (line_for room l)
+pub changed_tick : (room : ℕ) (l : List Place) → line_for room (changed runs_out less [] l) ≡ ticked (line_for room l)
 changed_tick room l =
-    line_changed (leaves Change.Tick) (turn_after Change.Tick) room (λ q turn. ltb turn 2) (λ q. false) (λ p e. refl) (λ p e. refl) l
+    line_changed runs_out less room (λ q turn. ltb turn 2) (λ q. false) (λ p e. refl) (λ p e. refl) l
     ∙ tick_line (ports_for room l) (turn_for room l)

@@ -1,14 +1,17 @@
 -- One place more, with a whole turn, is one port more at the back of its room's line.
 use Prim.Native.Nat.{ℕ, ◌<◌}
 use mathlib.Core.Path.{◌≡◌, refl, sym, ap, ap₂, ◌∙◌}
-use mathlib.Core.Bool.{Bool, true, false, cond, ◌||◌, ◌&&◌}
+use mathlib.Core.Bool.{Bool, true, false, cond, ◌&&◌}
 use mathlib.Core.List.{List, [], ◌∷◌, ◌++◌, append-nil}
-use borrow.Author.Tests.{ltb-true, ltb-false, lt-ltb, le-ltb, eqb-true, eqb-false, eq-eqb, ne_eqb}
+use borrow.Author.Tests.{lt-ltb, eqb-true, eqb-false, eq-eqb, ne_eqb}
 use native.Mathlib.Omega.{arith}
 use native.Mathlib.Nat.{mod-eq_of_lt}
 use lib.Dec.{eqb, ltb}
+use Rattle.std.proofs.lemmas.List.{take_more_set, length-take-le}
+use Rattle.std.proofs.Common.{length, set, ◌+◌}
+use Rattle.line.specs.declared.Lines.{Lines}
 use Rattle.line.specs.declared.Place.{Place}
-use Rattle.line.specs.Line.{Waiting, joined, turn_joined, into, joined_in, is_for, ports_for, turn_for, line_for}
+use Rattle.line.specs.Line.{Waiting, waiting, waiting_in, joined, turn_joined, into, joined_in, is_for, ports_for, turn_for, line_for}
 
 module _ (room : ℕ) (p : Place) where
   pub ports_last : (l : List Place) → ports_for room (l ++ p ∷ []) ≡ ports_for room l ++ cond (is_for room p) (p.port ∷ []) []
@@ -63,31 +66,11 @@ line_joined port at room l h =
     by false e =
         ap (λ (b : Bool). cond b (joined port (line_for room l)) (line_for room l)) (ne_eqb at room (λ same. eqb-false room at e (sym same)))
 
--- Whether a port may join, as the code asks it.
-may_not : (n room : ℕ) → (ltb 3 n || ltb 31 room) ≡ true → (ltb n 4 && ltb room 32) ≡ false
-may_not n room e = by (ltb 3 n) (ltb 31 room) refl refl e
-  where
-    second : (b : Bool) → (b && false) ≡ false
-    second true = refl
-    second false = refl
-
-    by : (b c : Bool) → ltb 3 n ≡ b → ltb 31 room ≡ c → (b || c) ≡ true → (ltb n 4 && ltb room 32) ≡ false
-    by true c p q e = ap (λ (b : Bool). b && ltb room 32) (le-ltb n 4 (ltb-true 3 n p))
-    by false c p q e = ap (λ (b : Bool). ltb n 4 && b) (le-ltb room 32 (ltb-true 31 room (q ∙ e))) ∙ second (ltb n 4)
-
-pub may : (n room : ℕ) → (ltb 3 n || ltb 31 room) ≡ false → (n < 4) × (room < 32)
-may n room e = by (ltb 3 n) (ltb 31 room) refl refl e
-  where
-    by : (b c : Bool) → ltb 3 n ≡ b → ltb 31 room ≡ c → (b || c) ≡ false → (n < 4) × (room < 32)
-    by true c p q e = let z : ◌≡◌ {A = ℕ} 0 1 = cc in absurd (omega arith)
-    by false c p q e = let h = ltb-false 3 n p in let g = ltb-false 31 room (q ∙ e) in (omega arith, omega arith)
-
-module _ (port room n : ℕ) (lines : ℕ → Waiting) where
-  abbrev joined_if : Bool → ℕ → Waiting
-  joined_if b = cond b (into room (joined port (lines room)) lines) lines
-
-  pub joined_nobody : (ltb 3 n || ltb 31 room) ≡ true → joined_in port room n lines ≡ lines
-  joined_nobody e = ap joined_if (may_not n room e)
-
-  pub joined_one : n < 4 → room < 32 → joined_in port room n lines ≡ into room (joined port (lines room)) lines
-  joined_one h g = ap joined_if (ap₂ (λ (x y : Bool). x && y) (lt-ltb n 4 h) (lt-ltb room 32 g))
+-- The place is put behind those that wait.
+pub joins : (port at : ℕ) (lines : Lines) → lines.len < length lines.places → lines.len < 4 → at < 32
+    → waiting (record { places = set lines.places lines.len (record { port = port; room = at; turn = 60 }); len = lines.len + 1 })
+    ≡ joined_in port at (length (waiting_in lines)) (waiting lines)
+joins port at lines h four room =
+    (λ i k. (ap (line_for k) (take_more_set lines.places lines.len _ h) ∙ line_joined port at k (waiting_in lines) room) i)
+    ∙ sym (ap₂ (λ (x y : Bool). cond (x && y) (into at (joined port (waiting lines at)) (waiting lines)) (waiting lines))
+    (ap (λ (n : ℕ). ltb n 4) (length-take-le _ _ (omega arith)) ∙ lt-ltb _ _ four) (lt-ltb at 32 room))

@@ -1,7 +1,6 @@
 -- Helper definitions of private functions: nothing outside this crate rests on them.
-use Rattle.std.specs.Prelude.{ℕ, ◌-◌, ◌%◌, Bool, false, cond, not, ◌||◌, ◌&&◌, List, [], ◌∷◌, ◌++◌, eqb, ltb, get_or}
+use Rattle.std.specs.Prelude.{◌≡◌, ℕ, ◌-◌, ◌%◌, Bool, false, cond, not, ◌||◌, ◌&&◌, List, [], ◌∷◌, ◌++◌, eqb, ltb, get_or, Option, Some, None}
 use Rattle.line.specs.declared.Place.{Place}
-use Rattle.line.specs.declared.Change.{Change}
 
 -- The room of the account that the place is for.
 abbrev pub room_in : Place → ℕ
@@ -24,6 +23,14 @@ stays front turn place = record { port = place.port; room = place.room; turn = c
 
 -- A change by which a place is given up, in front of its line or behind it, or else has that much of its turn left in front.
 module _ (gone : Bool → Place → Bool) (after : ℕ → ℕ) where
+  -- What is left of a turn, if the place isn't given up.
+  abbrev pub kept : Bool → Place → Option ℕ
+  kept front place = cond (gone front place) None (Some (after place.turn))
+
+  -- A closure says that of a place.
+  abbrev pub Keeps : (Place → Bool → Option ℕ → Type 0) → Type 0
+  Keeps post = (place : Place) (front : Bool) (r : Option ℕ) → post place front r → r ≡ kept front place
+
   -- What becomes of a place behind those.
   abbrev pub step : List Place → Place → List Place
   step before place =
@@ -42,11 +49,13 @@ is_of port front place = eqb place.port port
 abbrev pub same : ℕ → ℕ
 same turn = turn
 
--- The other changes.
-abbrev pub leaves : Change → Bool → Place → Bool
-leaves (Change.Remove room) front place = eqb (room_in place) room
-leaves Change.Tick front place = front && ltb place.turn 2
+-- An account's line is emptied.
+abbrev pub is_for_room : ℕ → Bool → Place → Bool
+is_for_room room front place = eqb (room_in place) room
 
-abbrev pub turn_after : Change → ℕ → ℕ
-turn_after (Change.Remove room) turn = turn
-turn_after Change.Tick turn = turn - 1
+-- A tick passes.
+abbrev pub runs_out : Bool → Place → Bool
+runs_out front place = front && ltb place.turn 2
+
+abbrev pub less : ℕ → ℕ
+less turn = turn - 1

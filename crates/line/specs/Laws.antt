@@ -1,16 +1,16 @@
 -- Laws of lines: who starts with which turn when somebody joins, leaves or a tick passes, and that the rooms' lines hold all who wait; and
 -- some of lists.
 use Prim.Native.Nat.{ℕ, zero, suc, ◌+◌, ◌-◌, ◌%◌, ◌≤◌, ◌<◌}
-use Rattle.std.specs.Prelude.{◌≡◌, Bool, cond, ◌||◌, List, [], ◌∷◌, ◌++◌, map, get_or, take}
+use Rattle.std.specs.Prelude.{◌≡◌, Bool, cond, ◌||◌, List, [], ◌∷◌, map, take, ltb, Some, None}
 use Rattle.std.proofs.Math.Path.{refl, ap₂}
-use Rattle.std.proofs.Common.{sym, ap, ◌∙◌, true≢false, add-one, take-suc}
+use Rattle.std.proofs.Common.{sym, ap, ◌∙◌, true≢false}
 use Rattle.std.proofs.Math.Bool.{true, false}
-use borrow.Author.Tests.{eq-eqb, ne_eqb, eqb-true, eqb-false}
+use borrow.Author.Tests.{eq-eqb, ne_eqb, eqb-true, eqb-false, ltb-false}
 use native.Mathlib.Omega.{arith}
 use Rattle.std.proofs.Math.ListN.{length}
 use Rattle.std.proofs.lemmas.List.{length-map}
+use Rattle.std.specs.Option.{unwrap_or}
 use Rattle.line.specs.declared.Place.{Place}
-use Rattle.line.specs.declared.Front.{Front}
 use Rattle.line.specs.Line.{
   Waiting,
   empty,
@@ -25,6 +25,10 @@ use Rattle.line.specs.Line.{
   turn_without,
   left,
   ticked,
+  stands_in,
+  room_from,
+  room_for,
+  room_found,
   is_for,
   ports_for,
   turn_for,
@@ -44,10 +48,6 @@ take_count (suc k) (a ∷ l) = ap (λ (t : List _). a ∷ t) (take_count k l)
 -- The first n are all that are taken, if that is how many they are.
 pub all_taken : {A : Type 0} (n k : ℕ) (l : List A) → n ≡ length (take k l) → take n l ≡ take k l
 all_taken n k l e = ap (λ (m : ℕ). take m l) e ∙ take_count k l
-
--- One more.
-pub one_more : {A : Type 0} (l : List A) (i : ℕ) (d : A) → i < length l → take (i + 1) l ≡ take i l ++ get_or l i d ∷ []
-one_more l i d h = ap (λ (n : ℕ). take n l) (add-one i) ∙ take-suc l i d h
 
 -- A line from its ports and its turn.
 abbrev pub line_of : List ℕ → ℕ → Waiting
@@ -71,30 +71,30 @@ unfolding left others turn_without
 left-empty port = refl
 
 -- "Whenever the front port leaves, for any reason, the next one starts at 60"; "while the line is empty the turn stands at 0".
-pub next_starts : (port : ℕ) (w : Waiting) → front_of w ≡ Front.At port → (left port w).turn ≡ start (left port w).ports
+pub next_starts : (port : ℕ) (w : Waiting) → front_of w ≡ Some port → (left port w).turn ≡ start (left port w).ports
 unfolding left others turn_without
 next_starts port w e = by w.ports w.turn e
   where
-    by : (l : List ℕ) (turn : ℕ) → first l ≡ Front.At port → (left port (line_of l turn)).turn ≡ start (left port (line_of l turn)).ports
+    by : (l : List ℕ) (turn : ℕ) → first l ≡ Some port → (left port (line_of l turn)).turn ≡ start (left port (line_of l turn)).ports
     by [] turn e = let z : ◌≡◌ {A = ℕ} 0 1 = cc in absurd (omega arith)
     by (q ∷ l) turn e = let same : q ≡ port = cc in rw (eq-eqb q port same)
 
 -- The turn goes on where the front port stays.
-pub front_goes_on : (port other : ℕ) (w : Waiting) → front_of w ≡ Front.At other → (other ≡ port → ⊥) → (left port w).turn ≡ w.turn
+pub front_goes_on : (port other : ℕ) (w : Waiting) → front_of w ≡ Some other → (other ≡ port → ⊥) → (left port w).turn ≡ w.turn
 unfolding left others turn_without
 front_goes_on port other w e n = by w.ports w.turn e
   where
-    by : (l : List ℕ) (turn : ℕ) → first l ≡ Front.At other → (left port (line_of l turn)).turn ≡ turn
+    by : (l : List ℕ) (turn : ℕ) → first l ≡ Some other → (left port (line_of l turn)).turn ≡ turn
     by [] turn e = let z : ◌≡◌ {A = ℕ} 0 1 = cc in absurd (omega arith)
     by (q ∷ l) turn e = let same : q ≡ other = cc in rw (ne_eqb q port (λ m. n (sym same ∙ m)))
 
 -- ---- a tick
 
-pub ticked_none : (w : Waiting) → front_of w ≡ Front.Nobody → ticked w ≡ w
+pub ticked_none : (w : Waiting) → front_of w ≡ None → ticked w ≡ w
 unfolding ticked
 ticked_none w e = by w.ports w.turn e
   where
-    by : (l : List ℕ) (turn : ℕ) → first l ≡ Front.Nobody → ticked (line_of l turn) ≡ line_of l turn
+    by : (l : List ℕ) (turn : ℕ) → first l ≡ None → ticked (line_of l turn) ≡ line_of l turn
     by [] turn e = refl
     by (q ∷ l) turn e = let z : ◌≡◌ {A = ℕ} 0 1 = cc in absurd (omega arith)
 
@@ -111,20 +111,20 @@ tick_leaves port turn l h e =
     rw (eq-eqb (turn - 1) 0 last, eq-eqb port port refl) (ap started (sym stay))
 
 -- The next one starts then.
-pub tick_starts : (w : Waiting) (port : ℕ) → front_of w ≡ Front.At port → w.turn < 2 → (ticked w).turn ≡ start (ticked w).ports
+pub tick_starts : (w : Waiting) (port : ℕ) → front_of w ≡ Some port → w.turn < 2 → (ticked w).turn ≡ start (ticked w).ports
 unfolding ticked
 tick_starts w port e h = by w.ports w.turn e h
   where
-    by : (l : List ℕ) (turn : ℕ) → first l ≡ Front.At port → turn < 2 → (ticked (line_of l turn)).turn ≡ start (ticked (line_of l turn)).ports
+    by : (l : List ℕ) (turn : ℕ) → first l ≡ Some port → turn < 2 → (ticked (line_of l turn)).turn ≡ start (ticked (line_of l turn)).ports
     by [] turn e h = let z : ◌≡◌ {A = ℕ} 0 1 = cc in absurd (omega arith)
     by (q ∷ l) turn e h = let last : turn - 1 ≡ 0 = omega arith in rw (eq-eqb (turn - 1) 0 last)
 
 -- Any other tick: the turn falls, and nobody leaves.
-pub tick_goes_on : (w : Waiting) (port : ℕ) → front_of w ≡ Front.At port → 2 ≤ w.turn → ticked w ≡ line_of w.ports (w.turn - 1)
+pub tick_goes_on : (w : Waiting) (port : ℕ) → front_of w ≡ Some port → 2 ≤ w.turn → ticked w ≡ line_of w.ports (w.turn - 1)
 unfolding ticked
 tick_goes_on w port e h = by w.ports w.turn e h
   where
-    by : (l : List ℕ) (turn : ℕ) → first l ≡ Front.At port → 2 ≤ turn → ticked (line_of l turn) ≡ line_of l (turn - 1)
+    by : (l : List ℕ) (turn : ℕ) → first l ≡ Some port → 2 ≤ turn → ticked (line_of l turn) ≡ line_of l (turn - 1)
     by [] turn e h = let z : ◌≡◌ {A = ℕ} 0 1 = cc in absurd (omega arith)
     by (q ∷ l) turn e h = rw (ne_eqb (turn - 1) 0 (λ z. omega arith))
 
@@ -155,6 +155,24 @@ past_rooms room (p ∷ l) h =
     ap (λ (b : Bool). line_of (cond b (p.port ∷ ports_for room l) (ports_for room l)) (cond b p.turn (turn_for room l)))
     (ne_eqb (p.room % 32) room (λ e. omega arith))
     ∙ past_rooms room l h
+
+-- A room behind them, where the port stands in none of their lines.
+room_bound : (port k n : ℕ) (lines : ℕ → Waiting) → room_from port k n lines ≤ k + n
+unfolding room_from
+room_bound port k zero lines = omega arith
+room_bound port k (suc n) lines = by (stands_in port (lines k)) (room_bound port (suc k) n lines)
+  where
+    by : (b : Bool) → room_from port (suc k) n lines ≤ suc k + n → cond b k (room_from port (suc k) n lines) ≤ k + suc n
+    by true h = omega arith
+    by false h = omega arith
+
+-- The room that is found, or the one behind them.
+pub found_or_past : (port : ℕ) (lines : ℕ → Waiting) → unwrap_or (room_found port lines) 32 ≡ room_for port lines
+found_or_past port lines = by (ltb (room_for port lines) 32) refl
+  where
+    by : (b : Bool) → ltb (room_for port lines) 32 ≡ b → unwrap_or (cond b (Some (room_for port lines)) None) 32 ≡ room_for port lines
+    by true e = refl
+    by false e = let past = ltb-false (room_for port lines) 32 e in let bound = room_bound port 0 32 lines in omega arith
 
 -- How many wait in the lines of n rooms, from room k on.
 unfoldable pub waiting_from : ℕ → ℕ → (ℕ → Waiting) → ℕ

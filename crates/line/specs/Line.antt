@@ -1,8 +1,7 @@
 -- A line and its turn: document 01, 'Table, ports and turns', and document 02, R-4; and what the four places mean.
-use Rattle.std.specs.Prelude.{ℕ, zero, suc, ◌-◌, ◌%◌, Bool, false, cond, ◌||◌, ◌&&◌, List, [], ◌∷◌, ◌++◌, eqb, ltb, take}
+use Rattle.std.specs.Prelude.{ℕ, zero, suc, ◌-◌, ◌%◌, Bool, false, cond, ◌||◌, ◌&&◌, List, [], ◌∷◌, ◌++◌, eqb, ltb, take, Option, Some, None}
 use Rattle.line.specs.declared.Place.{Place}
 use Rattle.line.specs.declared.Lines.{Lines}
-use Rattle.line.specs.declared.Front.{Front}
 
 -- An account's "own line" of waiting ports, front first, "and turn": "its front port has the turn", of so many ticks still.
 pub record Waiting : Type 0 where
@@ -25,11 +24,11 @@ some test (port ∷ ports) = test port || some test ports
 abbrev pub stands_in : ℕ → Waiting → Bool
 stands_in port w = some (of_port port) w.ports
 
-abbrev pub first : List ℕ → Front
-first [] = Front.Nobody
-first (port ∷ ports) = Front.At port
+abbrev pub first : List ℕ → Option ℕ
+first [] = None
+first (port ∷ ports) = Some port
 
-abbrev pub front_of : Waiting → Front
+abbrev pub front_of : Waiting → Option ℕ
 front_of w = first w.ports
 
 -- The turn with which the front of these begins: "starts at 60 ticks"; "while the line is empty the turn stands at 0".
@@ -86,6 +85,10 @@ room_from port k (suc n) lines = cond (stands_in port (lines k)) k (room_from po
 -- Of the 32 rooms.
 abbrev pub room_for : ℕ → (ℕ → Waiting) → ℕ
 room_for port lines = room_from port 0 32 lines
+
+-- That room, if there is one.
+abbrev pub room_found : ℕ → (ℕ → Waiting) → Option ℕ
+room_found port lines = let room = room_for port lines in cond (ltb room 32) (Some room) None
 
 -- A port joins the line of one of the rooms, where fewer than four wait in all.
 abbrev pub joined_in : ℕ → ℕ → ℕ → (ℕ → Waiting) → ℕ → Waiting

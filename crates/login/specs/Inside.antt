@@ -1,7 +1,7 @@
 -- Helper definitions of private functions: nothing outside this crate rests on them.
 use Rattle.std.specs.Prelude.{ℕ, Bool, not, ◌&&◌, List, [], ◌∷◌, eqb, leb, ltb}
 use Rattle.refusal.specs.declared.Refusal.{Refusal}
-use Rattle.refusal.specs.declared.Checked.{Checked}
+use Rattle.refusal.specs.Answers.{Checked}
 use Rattle.refusal.specs.Checks.{must}
 use Rattle.accounts.specs.Rooms.{Room}
 use Rattle.table.specs.Table.{State, port_of, waits}

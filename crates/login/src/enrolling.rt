@@ -1,33 +1,38 @@
 // The calls that keep accounts: Enrol and Remove.
 ghost use Rattle.std.specs.Prelude.{ℕ, ◌≡◌, List};
-ghost use Rattle.refusal.specs.Checks.{in_order};
+ghost use Rattle.accounts.specs.declared.Account.{Account};
+ghost use Rattle.refusal.specs.Checks.{in_order, checked_of};
 ghost use Rattle.table.specs.Table.{view};
 ghost use Rattle.table.specs.Steps as steps;
 ghost use Rattle.login.specs.Inside.{enrol_found, there};
 
-use accounts::FREE;
 use accounts::values::enrolment;
+use accounts::{Account, FREE};
 use refusal::{Checked, Refusal};
 use table::held::{place_of, put};
 use table::{Settled, Table};
 
 // Enrol's checks in their order: 50, then those of the values, 52, 53. The places are those of the id and of the first free room.
-fn check_enrol(id: u16, values: Checked, place: usize, room: usize) -> Checked
-    ensures { result ≡ in_order (enrol_found id values place room) }
+fn check_enrol(
+    id: u16,
+    made: Result<Account, Refusal>,
+    place: usize,
+    room: usize,
+) -> Result<Account, Refusal>
+    ensures checked { checked_of result ≡ in_order (enrol_found id (checked_of made) place room) }
+    ensures account { (account : Account) → result ≡ Ok account → made ≡ Ok account }
 {
     if id == 0 {
-        return Checked::Refused(Refusal::IdZero);
+        return Err(Refusal::IdZero);
     }
-    if let Checked::Refused(_) = values {
-        return values;
-    }
+    let account = made?;
     if place < 32 {
-        return Checked::Refused(Refusal::IdTaken);
+        return Err(Refusal::IdTaken);
     }
     if 31 < room {
-        return Checked::Refused(Refusal::TableFull);
+        return Err(Refusal::TableFull);
     }
-    values
+    Ok(account)
 }
 
 pub fn enrol(
@@ -43,16 +48,16 @@ pub fn enrol(
 {
     let place = place_of(table, id);
     let room = place_of(table, 0);
-    let next = enrolment(id, algorithm, count, seed, password);
-    let values = next.checked;
-    let answer = check_enrol(id, values, place, room);
-    if let Checked::Refused(_) = answer {
-        return Settled { table, answer };
-    }
-    let account = next.account;
-    Settled {
-        table: put(table, room, account),
-        answer,
+    let made = enrolment(id, algorithm, count, seed, password);
+    match check_enrol(id, made, place, room) {
+        Ok(account) => Settled {
+            table: put(table, room, account),
+            answer: Ok(()),
+        },
+        Err(why) => Settled {
+            table,
+            answer: Err(why),
+        },
     }
 }
 
@@ -61,9 +66,9 @@ fn check_remove(id: u16, place: usize) -> Checked
     ensures { result ≡ there id place }
 {
     if (id != 0) & (place < 32) {
-        return Checked::Good;
+        return Ok(());
     }
-    Checked::Refused(Refusal::AccountMissing)
+    Err(Refusal::AccountMissing)
 }
 
 pub fn remove(table: Table, id: u16) -> Settled
@@ -71,12 +76,12 @@ pub fn remove(table: Table, id: u16) -> Settled
 {
     let place = place_of(table, id);
     let answer = check_remove(id, place);
-    if let Checked::Refused(_) = answer {
+    if let Err(_) = answer {
         return Settled { table, answer };
     }
     let mut next = put(table, place, FREE);
     let waiting = next.lines;
-    let lines = line::remove(waiting, place);
+    let lines = waiting.remove(place);
     next.lines = lines;
     Settled {
         table: next,

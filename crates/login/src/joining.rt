@@ -7,7 +7,6 @@ ghost use Rattle.table.specs.Steps as steps;
 ghost use Rattle.login.specs.Inside.{join_checks, join_found};
 
 use accounts::Account;
-use line::has;
 use port::Port;
 use refusal::{Checked, Refusal};
 use table::held::{account_at, place_of};
@@ -30,21 +29,21 @@ fn join_answer(known: bool, there: bool, out: bool, unshut: bool, unused: bool) 
     ensures { result ≡ in_order (join_checks known there out unshut unused) }
 {
     if !known {
-        return Checked::Refused(Refusal::PortUnknown);
+        return Err(Refusal::PortUnknown);
     }
     if !there {
-        return Checked::Refused(Refusal::AccountMissing);
+        return Err(Refusal::AccountMissing);
     }
     if !out {
-        return Checked::Refused(Refusal::PortInLine);
+        return Err(Refusal::PortInLine);
     }
     if !unshut {
-        return Checked::Refused(Refusal::PortShut);
+        return Err(Refusal::PortShut);
     }
     if !unused {
-        return Checked::Refused(Refusal::AccountUsedUp);
+        return Err(Refusal::AccountUsedUp);
     }
-    Checked::Good
+    Ok(())
 }
 
 // The account is what was found where its id was looked up: a free room where it isn't there.
@@ -52,7 +51,7 @@ fn check_join(table: Table, port: u8, account: Account) -> Checked
     ensures { (older part : List ℕ) → result ≡ in_order (join_found port (room_of account part) (view table older)) }
 {
     let lines = table.lines;
-    let inside = has(lines, port);
+    let inside = lines.has(port);
     let ports = table.ports;
     let unshut = is_open(ports, port);
     join_answer(
@@ -69,11 +68,11 @@ pub fn join(mut table: Table, port: u8, id: u16) -> Settled
 {
     let place = place_of(table, id);
     let answer = check_join(table, port, account_at(table, place));
-    if let Checked::Refused(_) = answer {
+    if let Err(_) = answer {
         return Settled { table, answer };
     }
     let waiting = table.lines;
-    let lines = line::join(waiting, port, place);
+    let lines = waiting.join(port, place);
     table.lines = lines;
     Settled { table, answer }
 }

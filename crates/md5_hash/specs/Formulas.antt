@@ -1,11 +1,12 @@
 -- RFC 1321, 3.4 prints a word k and a shift s for each operation [abcd k s i]. The code works both out from the round n, 1 to
 -- 4, and the step i in it, 0 to 15; that this gives what is printed, at all 64 steps, is one computed test.
 use Rattle.std.specs.Prelude.{ℕ, zero, suc, ◌+◌, ◌*◌, ◌-◌, ◌/◌, ◌%◌, ◌<◌, ◌≤◌, ◌≡◌, refl, Bool, true, cond, ◌&&◌, List, eqb, ltb, length, get_or}
-use Rattle.std.proofs.Common.{subst, arith, eqb-true, ltb-true}
+use Rattle.std.proofs.Common.{subst, ap, arith, eqb-true, ltb-true}
 use Rattle.text.specs.Tests.{every, every_at, both}
 use Rattle.digests.specs.Lists.{up_to, length-up_to, get_d_up_to}
 use Rattle.digests.specs.Rounds.{round1, round2, round3, round4}
-use Rattle.md5_hash.specs.Inside.{round_of}
+use Rattle.md5_hash.specs.declared.round.Round.{Round}
+use Rattle.md5_hash.specs.Inside.{round_of, number, as_printed}
 
 abbrev pub word_of : ℕ → ℕ → ℕ
 word_of n i =
@@ -82,3 +83,17 @@ last_round (suc (suc zero)) low high h₁ h₂ h₃ = absurd (h₂ refl)
 last_round (suc (suc (suc zero))) low high h₁ h₂ h₃ = absurd (h₃ refl)
 last_round (suc (suc (suc (suc zero)))) low high h₁ h₂ h₃ = refl
 last_round (suc (suc (suc (suc (suc n))))) low high h₁ h₂ h₃ = omega arith
+
+-- The same for the rounds of the code; r' is the round as a case has it.
+numbered : (r : Round) → (0 < number r) × (number r ≤ 4)
+numbered Round.First = (omega arith, omega arith)
+numbered Round.Second = (omega arith, omega arith)
+numbered Round.Third = (omega arith, omega arith)
+numbered Round.Fourth = (omega arith, omega arith)
+
+module _ (r r' : Round) (i : ℕ) (h : i < 16) (e : r ≡ r') where
+  pub word_in : (word_of (number r') i ≡ get_or (as_printed r).order i 0) × (word_of (number r') i < 16)
+  word_in = word_printed_lem (number r) i (numbered r).0 (numbered r).1 h (number r') (ap number e)
+
+  pub shift_in : (shift_of (number r') i ≡ get_or (as_printed r).shifts i 0) × ((0 < shift_of (number r') i) × (shift_of (number r') i < 32))
+  shift_in = shift_printed_lem (number r) i (numbered r).0 (numbered r).1 h (number r') (ap number e)

@@ -9,8 +9,6 @@
 // of those after a renewal how long the seed is that the account remembers behind its present one. Of a reading or a hash it prints the last password.
 #![tactic(auto)]
 
-ghost use Rattle.std.specs.Prelude.{◌≤◌, ◌≡◌, IfOk, length};
-
 use extended::reply_texts::{ReplyText, seed_part};
 use generator::chain::step;
 use generator::generate;
@@ -18,25 +16,36 @@ use line::Lines;
 use password::algorithm::{Algorithm, number_of};
 use password::eight_bytes::bytes_of;
 use port::Port;
-use refusal::Reading;
 use std::io;
 use std::io::Read;
 use table::held::{account_at, place_of, put};
 use table::{Table, fresh};
-use text::counts::Counted;
-use text::put::copy;
 
-// What is offered: a password; for a renewal also new values, of which the seed stands in the text, and a new password.
+// The call that is repeated.
+#[derive(Clone, Copy, PartialEq, Eq)]
+enum Call {
+    Enrol,
+    Remove,
+    Join,
+    Challenge,
+    Leave,
+    Tick,
+    Offer,
+    Renewal,
+    Nothing,
+}
+
+// What is offered: a password; for a renewal also new values and a new password.
 #[derive(Clone, Copy)]
-struct Offered {
+struct Offered<'a> {
     algorithm: u32,
     count: u16,
-    start: usize,
-    len: usize,
+    seed: &'a [u8],
     new: u64,
     password: u64,
 }
 
+// What a letter stands for is told by a function for each thing that it tells: one table of all letters would be longer than 40 lines.
 fn algorithm_of(letter: u8) -> Algorithm {
     match letter {
         b'H' | b'W' | b'S' => Algorithm::Sha1,
@@ -44,49 +53,45 @@ fn algorithm_of(letter: u8) -> Algorithm {
     }
 }
 
-// The call that a letter repeats, by its first letter.
-fn call_of(letter: u8) -> u8 {
+// The call that a letter repeats.
+fn call_of(letter: u8) -> Call {
     match letter {
-        b'm' => b'l',
-        b'H' | b'w' | b'W' | b'k' | b'g' => b'h',
-        b'o' | b'y' => b'n',
-        b'i' | b'f' | b'u' => b't',
-        _ => letter,
+        b'e' => Call::Enrol,
+        b'r' => Call::Remove,
+        b'j' => Call::Join,
+        b'c' => Call::Challenge,
+        b'l' | b'm' => Call::Leave,
+        b'i' | b't' | b'f' | b'u' => Call::Tick,
+        b'h' | b'H' | b'w' | b'W' | b'k' | b'g' => Call::Offer,
+        b'n' | b'o' | b'y' => Call::Renewal,
+        _ => Call::Nothing,
     }
 }
 
 // Whether each repetition reads a text.
 fn is_read(letter: u8) -> bool {
-    match letter {
-        b'w' | b'W' | b'k' | b'g' | b'y' => true,
-        _ => false,
-    }
+    matches!(letter, b'w' | b'W' | b'k' | b'g' | b'y')
 }
 
-// The text that is read, and its length; where a renewal is offered that isn't read, its seed.
-fn put_text(letter: u8, buf: &mut [u8]) -> usize
-    requires { length buf.old ≡ 96 }
-    ensures { result ≤ 96 }
-{
+// The text that is read; where a renewal is offered that isn't read, its seed.
+fn text_of(letter: u8) -> &'static [u8] {
     match letter {
-        b'a' | b'w' => copy(buf, b"FOWL KID MASH DEAD DUAL OAF"),
-        b'W' => copy(buf, b"ONCE GRAB SOOT CUBE SLAY WAIT"),
-        b'b' | b'k' => copy(buf, b"85C4 3EE0 3857 765B"),
-        b'g' => copy(buf, b"hex:85c43ee03857765b"),
-        b'y' => copy(
-            buf,
-            b"init-word:FOWL KID MASH DEAD DUAL OAF:md5 99 dog2dog2dog2dog2:FOWL KID MASH DEAD DUAL OAF",
-        ),
-        b'n' => copy(buf, b"dog2"),
-        b'o' => copy(buf, b"dog2dog2dog2dog2"),
-        _ => 0,
+        b'a' | b'w' => b"FOWL KID MASH DEAD DUAL OAF",
+        b'W' => b"ONCE GRAB SOOT CUBE SLAY WAIT",
+        b'b' | b'k' => b"85C4 3EE0 3857 765B",
+        b'g' => b"hex:85c43ee03857765b",
+        b'y' => {
+            b"init-word:FOWL KID MASH DEAD DUAL OAF:md5 99 dog2dog2dog2dog2:FOWL KID MASH DEAD DUAL OAF"
+        }
+        b'n' => b"dog2",
+        b'o' => b"dog2dog2dog2dog2",
+        _ => b"",
     }
 }
 
 // The password of document 01's card at that count; the one at count 99 is offered here.
 fn password_at(algorithm: u32, count: u32) -> u64 {
-    let Reading::Password(p) = generate(algorithm, b"A_Valid_Pass_Phrase", b"AValidSeed", count)
-    else {
+    let Ok(p) = generate(algorithm, b"A_Valid_Pass_Phrase", b"AValidSeed", count) else {
         return 0;
     };
     p
@@ -96,11 +101,8 @@ fn password_at(algorithm: u32, count: u32) -> u64 {
 fn table_of(algorithm: u32, accounts: u16) -> Table {
     let stored = bytes_of(password_at(algorithm, 100));
     let mut t = fresh();
-    let mut id = 0;
-    while id < accounts {
-        id += 1;
-        let enrolled = login::enrol(t, id, algorithm, 100, b"AValidSeed", &stored);
-        t = enrolled.table;
+    for id in 1..=accounts {
+        t = login::enrol(t, id, algorithm, 100, b"AValidSeed", &stored).table;
     }
     t
 }
@@ -113,21 +115,14 @@ fn with_len(mut lines: Lines, len: u8) -> Lines {
 
 // The turn in a place; 0 where nobody stands there.
 fn turn_in(lines: Lines, at: usize) -> u8 {
-    if lines.len <= at {
-        return 0;
-    }
-    if 3 < at {
-        return 0;
-    }
-    let places = lines.places;
-    let place = places[at];
-    place.turn
+    let mut places = lines.places.iter().take(lines.len);
+    places.nth(at).map_or(0, |place| place.turn)
 }
 
 // Challenge leaves the table as it is: the first byte that was written stands in for a change.
 fn challenged(table: Table, port: u8) -> Table {
     let mut buf = [0u8; 64];
-    login::challenge(table, port, &mut buf);
+    let _ = login::challenge(table, port, &mut buf);
     let rooms = table.rooms;
     let ports = table.ports;
     let lines = with_len(table.lines, buf[0]);
@@ -140,9 +135,11 @@ fn challenged(table: Table, port: u8) -> Table {
 
 // Ports 1, 2 and 3 wait for that account.
 fn others_join(table: Table, id: u16) -> Table {
-    let first = login::join(table, 1, id).table;
-    let second = login::join(first, 2, id).table;
-    login::join(second, 3, id).table
+    let mut t = table;
+    for port in 1..4 {
+        t = login::join(t, port, id).table;
+    }
+    t
 }
 
 // Port 0 waits for that account, in front of the others.
@@ -165,10 +162,11 @@ fn with_eight(table: Table, id: u16) -> Table {
 
 // Of 32 accounts the last four have a port in line each.
 fn four_lines(table: Table) -> Table {
-    let first = login::join(table, 0, 32).table;
-    let second = login::join(first, 1, 31).table;
-    let third = login::join(second, 2, 30).table;
-    login::join(third, 3, 29).table
+    let mut t = table;
+    for port in 0..4 {
+        t = login::join(t, port, 32 - u16::from(port)).table;
+    }
+    t
 }
 
 // Ports 1, 2 and 3 are shut.
@@ -202,93 +200,85 @@ fn prepared(letter: u8, table: Table, id: u16) -> Table {
 }
 
 // A password alone. The rest is what a renewal has that isn't read; a login leaves it out.
-fn ready(password: u64, len: usize) -> Offered {
+fn ready(password: u64, seed: &[u8]) -> Offered<'_> {
     Offered {
         algorithm: 1,
         count: 99,
-        start: 0,
-        len,
+        seed,
         new: 7,
         password,
     }
 }
 
 // What a text says; where it is refused, a wrong password.
-fn said_in(read: ReplyText) -> Offered {
-    match read {
-        ReplyText::Login(password) => ready(password, 0),
-        ReplyText::Renewal {
+fn said_in(text: &[u8]) -> Offered<'_> {
+    match extended::reply_texts::read(text) {
+        Ok(ReplyText::Login(password)) => ready(password, b""),
+        Ok(
+            ReplyText::Renewal {
+                algorithm,
+                count,
+                start,
+                len,
+                new,
+                present,
+            },
+        ) => Offered {
             algorithm,
             count,
-            start,
-            len,
-            new,
-            present,
-        } => Offered {
-            algorithm,
-            count,
-            start,
-            len,
+            seed: seed_part(text, start, len),
             new,
             password: present,
         },
-        ReplyText::Refused(_) => ready(0, 0),
+        Err(_) => ready(0, b""),
     }
 }
 
 // What a text says from that place on.
-fn said_from(text: &[u8], at: usize) -> Offered {
-    if text.len() < at {
-        return ready(0, 0);
+fn said_from(text: &[u8], at: usize) -> Offered<'_> {
+    match text.get(at..) {
+        Some(rest) => said_in(rest),
+        None => ready(0, b""),
     }
-    said_in(extended::reply_texts::read(&text[at..]))
 }
 
 // What a repetition offers: what it reads from the text's start on, or the password that is ready. By another port than 0 it would be something else.
-fn offered_by(reads: bool, text: &[u8], password: u64, port: u8) -> Offered {
+fn offered_by(reads: bool, text: &[u8], password: u64, port: u8) -> Offered<'_> {
     if reads {
         return said_from(text, port as usize);
     }
-    ready(if port == 0 { password } else { 0 }, text.len())
+    ready(if port == 0 { password } else { 0 }, text)
 }
 
 // Each call stands here itself: behind a function of the meter's own the compiler would copy the table once more, in other calls too.
-fn once(
-    call: u8,
-    table: Table,
-    older: &mut [u8; 3808],
-    port: u8,
-    id: u16,
-    text: &[u8],
-    it: Offered,
-) -> Table {
+fn once(call: Call, table: Table, older: &mut [u8; 3808], port: u8, id: u16, it: Offered) -> Table {
     let stored = [7u8; 8];
     match call {
-        b'e' => login::enrol(table, 1000, 1, 99, b"AValidSeed", &stored).table,
-        b'r' => login::remove(table, id).table,
-        b'j' => login::join(table, port, id).table,
-        b'l' => login::leave(table, port).table,
-        b'c' => challenged(table, port),
-        b'h' => login::offer(table, port, it.password).table,
-        b'n' => login::offer_renewal(
+        Call::Enrol => login::enrol(table, 1000, 1, 99, b"AValidSeed", &stored).table,
+        Call::Remove => login::remove(table, id).table,
+        Call::Join => login::join(table, port, id).table,
+        Call::Leave => login::leave(table, port).table,
+        Call::Challenge => challenged(table, port),
+        Call::Offer => login::offer(table, port, it.password).table,
+        Call::Renewal => login::offer_renewal(
             table,
             older,
             port,
             it.algorithm,
             it.count,
-            seed_part(text, it.start, it.len),
+            it.seed,
             it.new,
             it.password,
         )
         .table,
-        b't' => login::tick(table),
-        _ => table,
+        Call::Tick => login::tick(table),
+        Call::Nothing => table,
     }
 }
 
 // Each repetition's port comes from the table before it (0: four wait at most, and a challenge starts with the letter o), and what it offers from the
 // port, so that none can be left out. Ticks go on from the table before: the 60 of a turn, in the last of which the front leaves, and then those of the
-// same turn again.
+// same turn again. What is asked for comes word by word: by a struct of letter, accounts and times, an offer with eight seeds took 6% more instructions.
 fn repeat(
     letter: u8,
     start: Table,
@@ -301,17 +291,15 @@ fn repeat(
     let call = call_of(letter);
     let reads = is_read(letter);
     let mut last = start;
-    let mut k = 0;
-    while k < times {
+    for k in 0..times {
         let port = if last.lines.len < 200 { 0 } else { 1 };
-        let from = if (call == b't') & (k % 60 != 0) {
+        let from = if (call == Call::Tick) & (k % 60 != 0) {
             last
         } else {
             start
         };
         let it = offered_by(reads, text, password, port);
-        last = once(call, from, older, port, id, text, it);
-        k += 1;
+        last = once(call, from, older, port, id, it);
     }
     last
 }
@@ -319,11 +307,8 @@ fn repeat(
 // A text read from its start on, since no password that was read before is 0.
 fn readings(text: &[u8], times: u64) -> u64 {
     let mut p = 1;
-    let mut k = 0;
-    while k < times {
-        let it = said_from(text, if p == 0 { 1 } else { 0 });
-        p = it.password;
-        k += 1;
+    for _ in 0..times {
+        p = said_from(text, if p == 0 { 1 } else { 0 }).password;
     }
     p
 }
@@ -331,17 +316,10 @@ fn readings(text: &[u8], times: u64) -> u64 {
 // The one hash that an offer does, on a password and then on what it gave.
 fn hashes(algorithm: Algorithm, times: u64) -> u64 {
     let mut p = 0;
-    let mut k = 0;
-    while k < times {
+    for _ in 0..times {
         p = step(algorithm, p);
-        k += 1;
     }
     p
-}
-
-fn print_number(to: io::Stdout, n: u64, after: &[u8]) -> io::Result<()> {
-    to.print(n)?;
-    to.write_all(after)
 }
 
 // How long the newest of the older seeds is, in the room of the last account; 0 where there is none.
@@ -355,20 +333,17 @@ fn newest_len(older: &[u8; 3808], accounts: u16) -> u8 {
 
 // What the last table has; the last number after a renewal is `newest`.
 fn print_left(to: io::Stdout, last: Table, renewed: bool, newest: u8) -> io::Result<()> {
-    let ports = last.ports;
-    let first = ports[0];
-    let fourth = ports[3];
-    let lines = last.lines;
-    print_number(to, lines.len as u64, b" ")?;
-    print_number(to, turn_in(lines, 0) as u64, b" ")?;
-    print_number(to, turn_in(lines, 3) as u64, b" ")?;
-    print_number(to, first.wrong as u64, b" ")?;
+    let [first, _, _, fourth] = last.ports;
+    let len = last.lines.len;
+    let turn = turn_in(last.lines, 0);
+    let fourth_turn = turn_in(last.lines, 3);
+    let wrong = first.wrong;
     let shut_or_seed = if renewed {
-        newest as u64
+        u16::from(newest)
     } else {
-        fourth.shut as u64
+        fourth.shut
     };
-    print_number(to, shut_or_seed, b"\n")
+    println!(to; "{len} {turn} {fourth_turn} {wrong} {shut_or_seed}")
 }
 
 // What is repeated: with how many accounts, the ports in line for the last of them, or for the last four.
@@ -381,7 +356,7 @@ fn measure(to: io::Stdout, letter: u8, accounts: u16, text: &[u8], times: u64) -
     print_left(
         to,
         last,
-        call_of(letter) == b'n',
+        call_of(letter) == Call::Renewal,
         newest_len(&older, accounts),
     )
 }
@@ -391,9 +366,7 @@ fn print_password(to: io::Stdout, p: u64) -> io::Result<()> {
 }
 
 fn run(to: io::Stdout, letter: u8, accounts: u16, times: u64) -> io::Result<()> {
-    let mut buf = [0u8; 96];
-    let len = put_text(letter, &mut buf);
-    let text = &buf[..len];
+    let text = text_of(letter);
     match letter {
         b's' | b'S' => print_password(to, hashes(algorithm_of(letter), times)),
         b'a' | b'b' => print_password(to, readings(text, times)),
@@ -401,34 +374,21 @@ fn run(to: io::Stdout, letter: u8, accounts: u16, times: u64) -> io::Result<()> 
     }
 }
 
-// Reads until the buffer is full or the input ends. How many bytes now stand at its front.
-fn read_full(mut from: io::Stdin, buf: &mut [u8]) -> io::Result<usize>
-    ensures { IfOk result (λ n. n ≤ length buf.new) }
-{
-    let mut done = 0;
-    while done < buf.len() {
-        let n = from.read(&mut buf[done..])?;
-        if n == 0 {
-            break;
-        }
-        done += n;
-    }
-    Ok(done)
-}
-
 fn main(rt: HostRuntime) -> io::Result<()> {
+    // No Vec: a heap's functions of C would be assumed too.
     let mut input = [0u8; 6];
-    let n = read_full(rt.stdin(), &mut input)?;
-    if n < 3 {
-        return Ok(());
-    }
-    let Counted::Is(thousands) = text::counts::read_count(&input[2..n]) else {
+    let mut room = &mut input[..];
+    let n = io::copy(&mut rt.stdin().take(6), &mut room)?;
+    let [letter, accounts, thousands @ ..] = &input[..(n as usize).min(6)] else {
         return Ok(());
     };
-    let accounts = match input[1] {
+    let Some(thousands) = text::counts::read_count(thousands) else {
+        return Ok(());
+    };
+    let accounts = match accounts {
         b'0' => 0,
         b'1' => 1,
         _ => 32,
     };
-    run(rt.stdout(), input[0], accounts, thousands as u64 * 1000)
+    run(rt.stdout(), *letter, accounts, u64::from(thousands) * 1000)
 }

@@ -53,8 +53,8 @@ fn full(room: u8, algorithm: u32, stored: u64) -> Table {
 // 0, or the refusal's number.
 fn number_of(answer: Replied) -> u32 {
     match answer {
-        Replied::Accepted(_) => 0,
-        Replied::Refused(why) => listing_of(why).0,
+        Ok(_) => 0,
+        Err(why) => listing_of(why).0,
     }
 }
 
@@ -71,13 +71,10 @@ pub extern "C" fn painted_offer(
     let mut table = full(room, algorithm, stored);
     table.rooms[(room % 32) as usize] = account(2, algorithm, stored);
     let mut number = 0;
-    let mut k = 0;
-    while k < times {
+    for _ in 0..times {
         let made = login::offer(table, port, password);
-        let answer = made.answer;
-        number = number_of(answer);
+        number = number_of(made.answer);
         table = made.table;
-        k += 1;
     }
     number
 }
@@ -98,13 +95,10 @@ pub extern "C" fn painted_offer_renewal(
     let mut table = full(room, algorithm, stored);
     table.rooms[(room % 32) as usize] = account(2, algorithm, stored);
     let mut number = 0;
-    let mut n = 0;
-    while n < times {
+    for _again in 0..times {
         let made = login::offer_renewal(table, older, port, algorithm, count, seed, new, password);
-        let answer = made.answer;
-        number = number_of(answer);
+        number = number_of(made.answer);
         table = made.table;
-        n += 1;
     }
     number
 }

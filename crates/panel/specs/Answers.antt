@@ -1,8 +1,7 @@
 -- An answer laid out for C: its number and values, by name.
-use Rattle.std.specs.Prelude.{ℕ, ◌≡◌, List}
+use Rattle.std.specs.Prelude.{ℕ, ◌≡◌, List, Result}
 use Rattle.text.specs.Put.{leaves}
-use Rattle.refusal.specs.declared.Reading.{Reading}
-use Rattle.refusal.specs.declared.Written.{Written}
+use Rattle.refusal.specs.Answers.{Reading, Written}
 use Rattle.refusal.specs.Numbers.{reading_numbers, written_numbers}
 use Rattle.challenge.specs.declared.reading.Challenge.{Challenge}
 use Rattle.challenge.specs.Challenges.{challenge_numbers}
@@ -12,12 +11,13 @@ use Rattle.panel.specs.declared.structs.LiftChallenge.{LiftChallenge}
 use Rattle.panel.specs.declared.structs.LiftReading.{LiftReading}
 use Rattle.panel.specs.declared.structs.LiftReply.{LiftReply}
 use Rattle.panel.specs.declared.structs.LiftWritten.{LiftWritten}
+use Rattle.refusal.specs.declared.Refusal.{Refusal}
 
 abbrev pub reading_row : Reading → LiftReading
 reading_row r =
     record { password = (reading_numbers r).1; refusal = (reading_numbers r).0.0; marks = (reading_numbers r).0.1 }
 
-abbrev pub reply_row : ReplyText → LiftReply
+abbrev pub reply_row : Result ReplyText Refusal → LiftReply
 reply_row r = record {
   password = (reply_numbers r).7;
   new_password = (reply_numbers r).6;
@@ -30,7 +30,7 @@ reply_row r = record {
   marks = (reply_numbers r).0.1;
 }
 
-abbrev pub challenge_row : Challenge → LiftChallenge
+abbrev pub challenge_row : Result Challenge Refusal → LiftChallenge
 challenge_row c = record {
   seed_at = (challenge_numbers c).3;
   seed_len = (challenge_numbers c).4;

@@ -1,7 +1,7 @@
 -- A writer's answer laid out for C: one argument for all writers.
 use Rattle.std.specs.Prelude.{ℕ, ◌≡◌, List}
 use Rattle.std.proofs.Common.{ap, ◌∙◌}
-use Rattle.refusal.specs.declared.Written.{Written}
+use Rattle.refusal.specs.Answers.{Written}
 use Rattle.text.specs.Put.{leaves}
 use Rattle.panel.specs.declared.structs.LiftWritten.{LiftWritten}
 use Rattle.panel.specs.Answers.{written_row, Reported}

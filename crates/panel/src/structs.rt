@@ -1,13 +1,12 @@
 // Answers as C sees them: `refusal` is 0 or the paper's number, and the values are 0 beside a refusal.
 ghost use Rattle.std.specs.Prelude.{◌≡◌, cond};
-ghost use Rattle.extended.specs.ReplyTexts.{with_read};
-ghost use Rattle.extended.specs.declared.reply_texts.ReplyText.{ReplyText};
+ghost use Rattle.extended.specs.ReplyTexts.{with_read, a_login};
 ghost use Rattle.panel.specs.Answers.{challenge_row, reading_row, reply_row, written_row};
 
 use challenge::reading::Challenge;
 use extended::reply_texts::ReplyText;
 use password::algorithm::number_of;
-use refusal::{Reading, Written, listing_of};
+use refusal::{Reading, Refusal, Written, listing_of};
 
 #[repr(C)]
 #[derive(Clone, Copy)]
@@ -54,12 +53,12 @@ pub fn reading_row(reading: Reading) -> LiftReading
     ensures { result ≡ reading_row reading }
 {
     match reading {
-        Reading::Password(password) => LiftReading {
+        Ok(password) => LiftReading {
             password,
             refusal: 0,
             marks: 0,
         },
-        Reading::Refused(why) => {
+        Err(why) => {
             let listing = listing_of(why);
             LiftReading {
                 password: 0,
@@ -72,7 +71,7 @@ pub fn reading_row(reading: Reading) -> LiftReading
 
 // The row of a reply that is no renewal, by the reading of its password.
 fn login_row(reading: Reading) -> LiftReply
-    ensures { result ≡ reply_row (with_read reading ReplyText.Login) }
+    ensures { result ≡ reply_row (with_read reading a_login) }
 {
     let row = reading_row(reading);
     LiftReply {
@@ -88,19 +87,21 @@ fn login_row(reading: Reading) -> LiftReply
     }
 }
 
-pub fn reply_row(reply: ReplyText) -> LiftReply
+pub fn reply_row(reply: Result<ReplyText, Refusal>) -> LiftReply
     ensures { result ≡ reply_row reply }
 {
     match reply {
-        ReplyText::Login(password) => login_row(Reading::Password(password)),
-        ReplyText::Renewal {
-            algorithm,
-            count,
-            start,
-            len,
-            new,
-            present,
-        } => LiftReply {
+        Ok(ReplyText::Login(password)) => login_row(Ok(password)),
+        Ok(
+            ReplyText::Renewal {
+                algorithm,
+                count,
+                start,
+                len,
+                new,
+                present,
+            },
+        ) => LiftReply {
             password: present,
             new_password: new,
             seed_at: start,
@@ -111,7 +112,7 @@ pub fn reply_row(reply: ReplyText) -> LiftReply
             refusal: 0,
             marks: 0,
         },
-        ReplyText::Refused(why) => login_row(Reading::Refused(why)),
+        Err(why) => login_row(Err(why)),
     }
 }
 
@@ -119,11 +120,11 @@ pub fn written_row(written: Written) -> LiftWritten
     ensures { result ≡ written_row written }
 {
     match written {
-        Written::Wrote(written) => LiftWritten {
+        Ok(written) => LiftWritten {
             written,
             refusal: 0,
         },
-        Written::Refused(why) => LiftWritten {
+        Err(why) => LiftWritten {
             written: 0,
             refusal: listing_of(why).0,
         },
@@ -137,27 +138,20 @@ fn flag(set: bool) -> u32
     if set { 1 } else { 0 }
 }
 
-pub fn challenge_row(challenge: Challenge) -> LiftChallenge
+pub fn challenge_row(challenge: Result<Challenge, Refusal>) -> LiftChallenge
     ensures { result ≡ challenge_row challenge }
 {
     match challenge {
-        Challenge::Read {
-            algorithm,
-            count,
-            start,
-            len,
-            used,
-            ext,
-        } => LiftChallenge {
-            seed_at: start,
-            seed_len: len,
-            used,
-            count,
-            algorithm: number_of(algorithm),
-            ext: flag(ext),
+        Ok(read) => LiftChallenge {
+            seed_at: read.start,
+            seed_len: read.len,
+            used: read.used,
+            count: read.count,
+            algorithm: number_of(read.algorithm),
+            ext: flag(read.ext),
             refusal: 0,
         },
-        Challenge::Refused(why) => LiftChallenge {
+        Err(why) => LiftChallenge {
             seed_at: 0,
             seed_len: 0,
             used: 0,

@@ -10,4 +10,3 @@ pub mod PhraseAndSeed
 pub mod PhraseAndSeedLaws
 pub mod EightBytes
 pub mod EightBytesLaws
-pub mod Inside

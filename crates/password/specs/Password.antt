@@ -1,9 +1,9 @@
 -- From pass-phrase to password: document 01, the section of that name, in its order.
-use Rattle.std.specs.Prelude.{ℕ, zero, suc, ◌+◌, cond, List, ◌++◌, map, ltb, get_or}
+use Rattle.std.specs.Prelude.{ℕ, zero, suc, ◌+◌, cond, List, ◌++◌, map, ltb, get_or, Ok, Err}
 use Rattle.std.specs.Int.Bits.{bit_xor}
 use Rattle.digests.specs.Lists.{up_to}
 use Rattle.refusal.specs.declared.Refusal.{Refusal}
-use Rattle.refusal.specs.declared.Reading.{Reading}
+use Rattle.refusal.specs.Answers.{Reading}
 use Rattle.refusal.specs.Checks.{unless}
 use Rattle.text.specs.Kinds.{lower_of}
 use Rattle.digests.specs.declared.Order.{Order}
@@ -46,13 +46,13 @@ password algorithm phrase seed (suc n) = hash algorithm (bytes_of (password algo
 -- "Counts are 0 to 9,999." "The generator checks 10, 11, 23, 24, 13 in that order."
 unfoldable pub generated_by : Algorithm → List ℕ → List ℕ → ℕ → Reading
 generated_by algorithm phrase seed count =
-    unless Reading.Refused (phrase_checked phrase)
-    (unless Reading.Refused (seed_checked seed)
-    (cond (ltb 9999 count) (Reading.Refused Refusal.CountHigh)
-    (Reading.Password (password algorithm phrase seed count))))
+    unless Err (phrase_checked phrase)
+    (unless Err (seed_checked seed)
+    (cond (ltb 9999 count) (Err Refusal.CountHigh)
+    (Ok (password algorithm phrase seed count))))
 
 -- R-1: "an unknown algorithm gives 21 .. at the generator .. first". The algorithm is given by its number.
 unfoldable pub generated : ℕ → List ℕ → List ℕ → ℕ → Reading
 generated number phrase seed count =
-    unless Reading.Refused (algorithm_checked (numbered number))
+    unless Err (algorithm_checked (numbered number))
     (generated_by (algorithm_in (numbered number)) phrase seed count)

@@ -1,15 +1,15 @@
 -- What a pass-phrase and a seed may be: document 01, 'From pass-phrase to password' and 'Refusal numbers'.
-use Rattle.std.specs.Prelude.{ℕ, Bool, cond, ◌&&◌, ◌||◌, List, leb, ltb, length}
+use Rattle.std.specs.Prelude.{ℕ, Bool, cond, ◌&&◌, ◌||◌, List, leb, ltb, length, Ok, Err}
 use Rattle.refusal.specs.declared.Refusal.{Refusal}
-use Rattle.refusal.specs.declared.Checked.{Checked}
+use Rattle.refusal.specs.Answers.{Checked}
 use Rattle.text.specs.Kinds.{is_letter, is_digit}
 use Rattle.text.specs.Tests.{every}
 
 -- "The pass-phrase is 10 to 63 bytes of any value": 10 under, 11 over.
 abbrev pub phrase_checked : List ℕ → Checked
 phrase_checked phrase =
-    cond (ltb (length phrase) 10) (Checked.Refused Refusal.PhraseShort)
-    (cond (ltb 63 (length phrase)) (Checked.Refused Refusal.PhraseLong) Checked.Good)
+    cond (ltb (length phrase) 10) (Err Refusal.PhraseShort)
+    (cond (ltb 63 (length phrase)) (Err Refusal.PhraseLong) (Ok tt))
 
 -- Letters and digits only.
 unfoldable pub plain : List ℕ → Bool
@@ -19,5 +19,5 @@ plain s = every (λ b. is_letter b || is_digit b) s
 abbrev pub seed_checked : List ℕ → Checked
 seed_checked seed =
     cond (leb 1 (length seed) && leb (length seed) 16)
-    (cond (plain seed) Checked.Good (Checked.Refused Refusal.SeedCharacter))
-    (Checked.Refused Refusal.SeedLength)
+    (cond (plain seed) (Ok tt) (Err Refusal.SeedCharacter))
+    (Err Refusal.SeedLength)

@@ -2,27 +2,21 @@
 ghost use Rattle.std.specs.Prelude.{◌≡◌};
 ghost use Rattle.password.specs.Algorithm as spec;
 
+// Each has its number.
 #[derive(Clone, Copy)]
 pub enum Algorithm {
-    Md5,
-    Sha1,
+    Md5 = 1,
+    Sha1 = 2,
 }
 
-// The algorithm that a number or a name is, if it is one.
-#[derive(Clone, Copy)]
-pub enum Named {
-    Is(Algorithm),
-    Unknown,
-}
-
-// The algorithm with that number. A number of any size is compared as it is: 257 is none, though its lowest byte is 1.
-pub fn numbered(number: u32) -> Named
+// The algorithm with that number, if it is one. A number of any size is compared as it is: 257 is none, though its lowest byte is 1.
+pub fn numbered(number: u32) -> Option<Algorithm>
     ensures { result ≡ spec.numbered number }
 {
     match number {
-        1 => Named::Is(Algorithm::Md5),
-        2 => Named::Is(Algorithm::Sha1),
-        _ => Named::Unknown,
+        1 => Some(Algorithm::Md5),
+        2 => Some(Algorithm::Sha1),
+        _ => None,
     }
 }
 
@@ -30,17 +24,11 @@ pub fn numbered(number: u32) -> Named
 pub fn algorithm_in(number: u32) -> Algorithm
     ensures { result ≡ spec.algorithm_in (spec.numbered number) }
 {
-    if number == 2 {
-        return Algorithm::Sha1;
-    }
-    Algorithm::Md5
+    numbered(number).unwrap_or(Algorithm::Md5)
 }
 
 pub fn number_of(algorithm: Algorithm) -> u32
     ensures { result ≡ spec.algorithm_number algorithm }
 {
-    match algorithm {
-        Algorithm::Md5 => 1,
-        Algorithm::Sha1 => 2,
-    }
+    algorithm as u32
 }

@@ -3,47 +3,45 @@ ghost use Rattle.std.specs.Prelude.{◌≡◌, [], ◌∷◌, ◌++◌, ◌+◌,
 ghost use Rattle.text.specs.Put.{Put};
 ghost use Rattle.password.specs.Algorithm.{algorithm_name, named};
 
-use crate::algorithm::{Algorithm, Named};
-use text::put::copy;
+use crate::algorithm::Algorithm;
+use text::put::copy_and;
 use text::scan::same;
 
-const MD5: [u8; 3] = [b'm', b'd', b'5'];
+// An algorithm's name.
+#[tactic(auto, unfolding(crate::specs::Algorithm::algorithm_name, text::specs::Quoted::codes))]
+fn name_of(algorithm: Algorithm) -> &'static [u8]
+    ensures { result.now ≡ algorithm_name algorithm }
+{
+    match algorithm {
+        Algorithm::Md5 => b"md5",
+        Algorithm::Sha1 => b"sha1",
+    }
+}
 
-const SHA1: [u8; 4] = [b's', b'h', b'a', b'1'];
-
-// The algorithm with that name, in lower case and whole.
-pub fn read_name(name: &[u8]) -> Named
+// The algorithm with that name, in lower case and whole, if it is one.
+pub fn read_name(name: &[u8]) -> Option<Algorithm>
     ensures { result ≡ named name.now }
 {
-    if same(name, &MD5) {
-        return Named::Is(Algorithm::Md5);
+    if same(name, name_of(Algorithm::Md5)) {
+        return Some(Algorithm::Md5);
     }
-    if same(name, &SHA1) {
-        return Named::Is(Algorithm::Sha1);
+    if same(name, name_of(Algorithm::Sha1)) {
+        return Some(Algorithm::Sha1);
     }
-    Named::Unknown
+    None
 }
 
 // How many bytes a name has.
 pub fn name_length(algorithm: Algorithm) -> usize
     ensures { (result ≡ length (algorithm_name algorithm)) × (result ≤ 4) }
 {
-    match algorithm {
-        Algorithm::Md5 => 3,
-        Algorithm::Sha1 => 4,
-    }
+    name_of(algorithm).len()
 }
 
-// An algorithm's name and a space after it. The space stands behind both arms: with `copy_and` in each of them the compiler kept their first four bytes
-// as constants of sixteen, and GNU ld links all of those with each function that has one (docs/DECISIONS.md, Flash).
+// An algorithm's name and a space after it.
 pub fn put_name(buf: &mut [u8], algorithm: Algorithm) -> usize
     requires { length (algorithm_name algorithm) + 1 ≤ length buf.old }
     ensures { Put (algorithm_name algorithm ++ 32 ∷ []) buf.old buf.new result }
 {
-    let a = match algorithm {
-        Algorithm::Md5 => copy(buf, &MD5),
-        Algorithm::Sha1 => copy(buf, &SHA1),
-    };
-    buf[a] = b' ';
-    a + 1
+    copy_and(buf, name_of(algorithm), b' ')
 }

@@ -12,86 +12,64 @@ pub struct Port {
     pub shut: u16,
 }
 
-// What becomes of a record, by value. A wrong reply: the third in a row shuts the port for 900 ticks.
-fn wrong_step(mut own: Port) -> Port
-    ensures { result ≡ wrongly own }
-{
-    if own.wrong < 2 {
-        own.wrong += 1;
-        return own;
+impl Port {
+    // What a port's own record becomes is written where it stands, in the record that is lent.
+
+    pub fn tick(&mut self)
+        ensures { self.new ≡ cooled self.old }
+    {
+        self.shut = self.shut.saturating_sub(1);
     }
-    Port {
-        wrong: 0,
-        shut: 900,
+
+    pub fn right(&mut self)
+        ensures { self.new ≡ rightly self.old }
+    {
+        self.wrong = 0;
     }
-}
 
-pub fn wrong_answer(port: Port) -> Refusal
-    ensures { result ≡ wrong_answer port }
-{
-    if port.wrong < 2 {
-        return Refusal::ReplyWrong;
+    // The third wrong reply in a row shuts the port for 900 ticks. What is answered is `wrong_answer` of the record as it was.
+    pub fn wrong(&mut self)
+        ensures { self.new ≡ wrongly self.old }
+    {
+        if self.wrong < 2 {
+            self.wrong += 1;
+        } else {
+            *self = Port {
+                wrong: 0,
+                shut: 900,
+            };
+        }
     }
-    Refusal::ReplyWrongThird
-}
 
-fn right_step(mut own: Port) -> Port
-    ensures { result ≡ rightly own }
-{
-    own.wrong = 0;
-    own
-}
-
-fn tick_step(mut own: Port) -> Port
-    ensures { result ≡ cooled own }
-{
-    if 0 < own.shut {
-        own.shut -= 1;
-        return own;
+    pub fn wrong_answer(self) -> Refusal
+        ensures { result ≡ wrong_answer self }
+    {
+        if self.wrong < 2 {
+            return Refusal::ReplyWrong;
+        }
+        Refusal::ReplyWrongThird
     }
-    own
-}
 
-// A port's own record is lent and brought up to date where it stands.
+    // The table's calls hand a record over, which is lent to these three: so who has plain values lends nothing.
 
-pub fn tick(port: &mut Port)
-    ensures { port.new ≡ cooled port.old }
-{
-    *port = tick_step(*port);
-}
+    pub fn after_tick(mut self) -> Port
+        ensures { result ≡ cooled self }
+    {
+        self.tick();
+        self
+    }
 
-pub fn right(port: &mut Port)
-    ensures { port.new ≡ rightly port.old }
-{
-    *port = right_step(*port);
-}
+    pub fn after_right(mut self) -> Port
+        ensures { result ≡ rightly self }
+    {
+        self.right();
+        self
+    }
 
-// What is answered then is `wrong_answer` of the record as it was.
-pub fn wrong(port: &mut Port)
-    ensures { port.new ≡ wrongly port.old }
-{
-    *port = wrong_step(*port);
-}
-
-// The table's calls hand a record over, which is lent to these three: so who has plain values lends nothing.
-
-pub fn after_tick(mut port: Port) -> Port
-    ensures { result ≡ cooled port }
-{
-    tick(&mut port);
-    port
-}
-
-pub fn after_right(mut port: Port) -> Port
-    ensures { result ≡ rightly port }
-{
-    right(&mut port);
-    port
-}
-
-pub fn after_wrong(mut port: Port) -> Port
-    ensures { result ≡ wrongly port }
-{
-    wrong(&mut port);
-    port
+    pub fn after_wrong(mut self) -> Port
+        ensures { result ≡ wrongly self }
+    {
+        self.wrong();
+        self
+    }
 }

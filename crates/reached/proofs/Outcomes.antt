@@ -1,10 +1,10 @@
 -- Each call's outcome, on every table. It stands here, and not in specs/, so that an edit of what a call is said to do is refused for the outcome alone.
-use Rattle.std.specs.Prelude.{ℕ, ◌+◌, ◌≤◌, ◌<◌, ◌≡◌, refl, Bool, true, false, cond, ◌&&◌, ◌||◌, List, [], ◌∷◌, map, eqb, leb, length, take}
+use Rattle.std.specs.Prelude.{ℕ, ◌+◌, ◌≤◌, ◌<◌, ◌≡◌, refl, Bool, true, false, cond, ◌&&◌, ◌||◌, List, [], ◌∷◌, map, eqb, leb, length, take, Ok, Err}
 use Rattle.std.proofs.Common.{arith, sym, ◌∙◌, subst, true≢false, leb-true, le-leb, length-take}
 use Rattle.std.proofs.lemmas.Bool.{false≢true, eqb-false, not-true}
 use Rattle.std.proofs.lemmas.List.{length-map}
 use Rattle.refusal.specs.declared.Refusal.{Refusal}
-use Rattle.refusal.specs.declared.Checked.{Checked}
+use Rattle.refusal.specs.Answers.{Checked}
 use Rattle.refusal.specs.Checks.{unless}
 use Rattle.text.specs.Kinds.{is_upper, is_lower, is_letter, is_digit, lower_of}
 use Rattle.text.specs.Tests.{every, both}
@@ -14,7 +14,7 @@ use Rattle.password.specs.Password.{hash, bytes_of, number_of}
 use Rattle.line.specs.Line.{stands_in}
 use Rattle.refusal.specs.Each.{Each}
 use Rattle.accounts.specs.Rooms.{Room, remembered}
-use Rattle.table.specs.declared.Replied.{Replied}
+use Rattle.table.specs.Answers.{Replied}
 use Rattle.table.specs.Table.{State, is_there, line_of, own_account}
 use Rattle.accounts.specs.Accounts.{with_values, new_room, renewed_room, lowered, is_one_of}
 use Rattle.table.specs.TableChecks.{account_there}
@@ -53,14 +53,14 @@ seed_lower (b ∷ s) e =
     rw (kept_lower b halves.0) (seed_lower s halves.1)
 
 -- A seed that the checks found good is kept as a good one.
-seed_good : (seed : List ℕ) → seed_checked seed ≡ Checked.Good → SeedGood (map lower_of seed)
+seed_good : (seed : List ℕ) → seed_checked seed ≡ Ok tt → SeedGood (map lower_of seed)
 seed_good seed e =
     let good = good_seed seed e in
     record { from = rw length-map good.0; to = rw length-map good.1; kept = seed_lower seed good.2 }
 
 -- What Enrol and a renewal store is good, if the older seeds are seven at most, good and different, and none of them is the new one.
 values_good : (id : ℕ) (older : List (List ℕ)) (number count : ℕ) (seed : List ℕ) (password : ℕ) → (leb 2 count && leb count 9999) ≡ true
-    → seed_checked seed ≡ Checked.Good → length older ≤ 7 → Each SeedGood older → is_one_of (map lower_of seed) older ≡ false → Different older
+    → seed_checked seed ≡ Ok tt → length older ≤ 7 → Each SeedGood older → is_one_of (map lower_of seed) older ≡ false → Different older
     → AccountGood (with_values id older number count seed password)
 values_good id older number count seed password e f few good new different =
     let counts = both (leb 2 count) (leb count 9999) e in
@@ -74,14 +74,14 @@ values_good id older number count seed password e f few good new different =
     }
 
 -- Enrol: there are no older seeds.
-new_good : (id number count : ℕ) (seed password : List ℕ) → (leb 2 count && leb count 9999) ≡ true → seed_checked seed ≡ Checked.Good
+new_good : (id number count : ℕ) (seed password : List ℕ) → (leb 2 count && leb count 9999) ≡ true → seed_checked seed ≡ Ok tt
     → AccountGood (new_room id number count seed password)
 unfolding is_one_of
 new_good id number count seed password e f = values_good id [] number count seed (number_of password) e f (omega arith) tt refl tt
 
 -- A renewal: they are the first seven of those that the account remembered.
 renewed_good : (old : Room) (number count : ℕ) (seed : List ℕ) (password : ℕ) → (leb 2 count && leb count 9999) ≡ true
-    → seed_checked seed ≡ Checked.Good → is_one_of (map lower_of seed) (remembered old) ≡ false → AccountGood old
+    → seed_checked seed ≡ Ok tt → is_one_of (map lower_of seed) (remembered old) ≡ false → AccountGood old
     → AccountGood (renewed_room old number count seed password)
 renewed_good old number count seed password e f new good =
     values_good old.id (take 7 (remembered old)) number count seed password e f (omega (arith, length-take 7 (remembered old)))
@@ -92,15 +92,15 @@ renewed_good old number count seed password e f new good =
 
 -- Behind checks: nothing where one of them refuses, else what comes next.
 checked_outcome : {A : Type 0} (refuse : Refusal → A) (c : Call) (s : State) (k : Checked) (next : After A) → tick_of c ≡ 0
-    → (k ≡ Checked.Good → Outcome c s next.state) → Outcome c s (unless (λ why. record { answer = refuse why; state = s }) k next).state
-checked_outcome refuse c s Checked.Good next z f = f refl
-checked_outcome refuse c s (Checked.Refused why) next z f = Outcome.nothing z
+    → (k ≡ Ok tt → Outcome c s next.state) → Outcome c s (unless (λ why. record { answer = refuse why; state = s }) k next).state
+checked_outcome refuse c s (Ok _) next z f = f refl
+checked_outcome refuse c s (Err why) next z f = Outcome.nothing z
 
 enrol_outcome : (id number count : ℕ) (seed password : List ℕ) (s : State)
     → Outcome (Call.Enrol id number count seed password) s (Steps.enrol id number count seed password s).state
 unfolding Steps.enrol
 enrol_outcome id number count seed password s =
-    checked_outcome Checked.Refused (Call.Enrol id number count seed password) s (enrol_checked id number count seed s) _ refl
+    checked_outcome Err (Call.Enrol id number count seed password) s (enrol_checked id number count seed s) _ refl
     (λ e.
     let passed = enrol_passed id number count seed s e in
     Outcome.enrolled refl (new_room id number count seed password) (new_good id number count seed password passed.within passed.good)
@@ -109,13 +109,13 @@ enrol_outcome id number count seed password s =
 remove_outcome : (id : ℕ) (s : State) → Outcome (Call.Remove id) s (Steps.remove id s).state
 unfolding Steps.remove
 remove_outcome id s =
-    checked_outcome Checked.Refused (Call.Remove id) s (account_there id s) _ refl
+    checked_outcome Err (Call.Remove id) s (account_there id s) _ refl
     (λ e. Outcome.removed refl id (must_good _ _ e) (λ p i q. not-true (eqb id i) q) (λ i q. not-true (eqb id i) q) (λ i q. not-true (eqb id i) q))
 
 join_outcome : (port id : ℕ) (s : State) → Outcome (Call.Join port id) s (Steps.join port id s).state
 unfolding Steps.join
 join_outcome port id s =
-    checked_outcome Checked.Refused (Call.Join port id) s (join_checked port id s) _ refl
+    checked_outcome Err (Call.Join port id) s (join_checked port id s) _ refl
     (λ e.
     let facts = join_good port id s e in
     Outcome.joined refl port id facts.0 facts.1 facts.2 facts.3 (λ p i q. not-true (eqb port p) q) (λ i q. not-true (eqb id i) q))
@@ -123,7 +123,7 @@ join_outcome port id s =
 leave_outcome : (port : ℕ) (s : State) → Outcome (Call.Leave port) s (Steps.leave port s).state
 unfolding Steps.leave
 leave_outcome port s =
-    checked_outcome Checked.Refused (Call.Leave port) s (leave_checked port s) _ refl
+    checked_outcome Err (Call.Leave port) s (leave_checked port s) _ refl
     (λ e. Outcome.left refl port (λ p i q. not-true (eqb port p) q) (λ i q. not-true (stands_in port (line_of i s)) q))
 
 compared_outcome : (c : Call) (port password : ℕ) (next : Room) (s : State) → tick_of c ≡ 0 → TurnGood port s → NotBy c port → Outside c s port
@@ -153,9 +153,9 @@ module _ (c : Call) (port : ℕ) (s : State) (z : tick_of c ≡ 0) (n : NotBy c 
   old = own_account port s
 
   passed_outcome : (what : Offered) → ((i : ℕ) → keeps_algorithm i c ≡ true → renews what ≡ false)
-      → offer_checked port what s ≡ Checked.Good → Outcome c s (compared port (present_in what) (next_of what old) s).state
+      → offer_checked port what s ≡ Ok tt → Outcome c s (compared port (present_in what) (next_of what old) s).state
   passed_outcome (Offered.Login password) k e =
-      let g = turn_good port s (both_good (turn_checked port s) Checked.Good e).0 in
+      let g = turn_good port s (both_good (turn_checked port s) (Ok tt) e).0 in
       compared_outcome c port password (lowered old password) s z g n o refl (lowered_good old password g.unused)
       (λ i q. (refl, refl)) (SeedStep.stayed refl)
   passed_outcome (Offered.Renewal number count seed new password) k e =
@@ -167,7 +167,7 @@ module _ (c : Call) (port : ℕ) (s : State) (z : tick_of c ≡ 0) (n : NotBy c 
 
   offers_outcome : (what : Offered) → ((i : ℕ) → keeps_algorithm i c ≡ true → renews what ≡ false) → Outcome c s (offers port what s).state
   unfolding offers
-  offers_outcome what k = checked_outcome Replied.Refused c s (offer_checked port what s) _ z (passed_outcome what k)
+  offers_outcome what k = checked_outcome Err c s (offer_checked port what s) _ z (passed_outcome what k)
 
 offer_outcome : (port password : ℕ) (s : State) → Outcome (Call.Offer port password) s (Steps.offer port password s).state
 offer_outcome port password s =

@@ -1,11 +1,10 @@
 -- All calls as data, and what a run of them does to a table.
-use Rattle.std.specs.Prelude.{ℕ, List, [], ◌∷◌}
+use Rattle.std.specs.Prelude.{ℕ, List, [], ◌∷◌, Ok, Err}
 use Rattle.refusal.specs.declared.Refusal.{Refusal}
-use Rattle.refusal.specs.declared.Checked.{Checked}
-use Rattle.refusal.specs.declared.Written.{Written}
+use Rattle.refusal.specs.Answers.{Checked, Written}
 use Rattle.refusal.specs.declared.Listing.{Listing}
 use Rattle.refusal.specs.Numbers.{listing_of, checked_numbers, written_numbers}
-use Rattle.table.specs.declared.Replied.{Replied}
+use Rattle.table.specs.Answers.{Replied}
 use Rattle.table.specs.Table.{State}
 use Rattle.table.specs.Steps.{enrol, remove, join, leave, challenge, offer, offer_renewal, tick, replied_numbers}
 
@@ -39,16 +38,16 @@ pub data Answer : Type 0 where
   Refused : Refusal → Answer
 
 abbrev pub checked_answer : Checked → Answer
-checked_answer Checked.Good = Answer.Done
-checked_answer (Checked.Refused why) = Answer.Refused why
+checked_answer (Ok _) = Answer.Done
+checked_answer (Err why) = Answer.Refused why
 
 abbrev pub replied_answer : Replied → Answer
-replied_answer (Replied.Accepted count) = Answer.Count count
-replied_answer (Replied.Refused why) = Answer.Refused why
+replied_answer (Ok count) = Answer.Count count
+replied_answer (Err why) = Answer.Refused why
 
 abbrev pub written_answer : Written → Answer
-written_answer (Written.Wrote n) = Answer.Wrote n
-written_answer (Written.Refused why) = Answer.Refused why
+written_answer (Ok n) = Answer.Wrote n
+written_answer (Err why) = Answer.Refused why
 
 abbrev pub answer : Call → State → Answer
 answer (Call.Enrol id number count seed password) s = checked_answer (enrol id number count seed password s).answer
@@ -62,9 +61,9 @@ answer Call.Tick s = Answer.Done
 
 -- The number and value of a call's answer: those of the enum that it answers with.
 abbrev pub numbers : Answer → Listing × ℕ
-numbers Answer.Done = (checked_numbers Checked.Good, 0)
-numbers (Answer.Count count) = replied_numbers (Replied.Accepted count)
-numbers (Answer.Wrote n) = written_numbers (Written.Wrote n)
+numbers Answer.Done = (checked_numbers (Ok tt), 0)
+numbers (Answer.Count count) = replied_numbers (Ok count)
+numbers (Answer.Wrote n) = written_numbers (Ok n)
 numbers (Answer.Refused why) = (listing_of why, 0)
 
 -- The table after several, the first first.

@@ -1,26 +1,21 @@
 -- The words of the day of one password: a reply that steps an account down, a renewal, a reply that is accepted, the way from the challenge to it,
 -- and a wrong reply.
-use Rattle.std.specs.Prelude.{ℕ, ◌+◌, ◌<◌, ◌≡◌, true, false, List, [], ◌∷◌, map, length, take}
+use Rattle.std.specs.Prelude.{ℕ, ◌+◌, ◌<◌, ◌≡◌, true, false, List, [], ◌∷◌, map, length, take, Some, Ok}
 use Rattle.refusal.specs.declared.Refusal.{Refusal}
-use Rattle.refusal.specs.declared.Reading.{Reading}
-use Rattle.refusal.specs.declared.Written.{Written}
 use Rattle.refusal.specs.Each.{Each}
 use Rattle.text.specs.Kinds.{lower_of}
 use Rattle.text.specs.Put.{leaves}
 use Rattle.password.specs.declared.algorithm.Algorithm.{Algorithm}
-use Rattle.password.specs.declared.algorithm.Named.{Named}
 use Rattle.password.specs.Algorithm.{algorithm_number, numbered}
 use Rattle.password.specs.Password.{bytes_of, number_of, hash, password, generated}
-use Rattle.challenge.specs.declared.reading.Challenge.{Challenge}
-use Rattle.challenge.specs.Challenges.{challenge_of, seed_of}
+use Rattle.challenge.specs.Challenges.{challenge_of, seed_of, a_challenge}
 use Rattle.hex_text.specs.Hex.{hex_of}
 use Rattle.sixwords.specs.Spelling.{words_of}
 use Rattle.extended.specs.declared.reply_types.ReplyType.{ReplyType}
-use Rattle.extended.specs.declared.reply_texts.ReplyText.{ReplyText}
-use Rattle.extended.specs.ReplyTexts.{reply_text_of}
+use Rattle.extended.specs.ReplyTexts.{reply_text_of, a_login}
 use Rattle.extended.specs.ReplyWriting.{login_text}
 use Rattle.port.specs.Port.{wrongly, wrong_answer}
-use Rattle.table.specs.declared.Replied.{Replied}
+use Rattle.table.specs.Answers.{Replied}
 use Rattle.accounts.specs.Rooms.{Room, remembered}
 use Rattle.accounts.specs.Accounts.{is_one_of, renewed_room}
 use Rattle.table.specs.Table.{State, room_at, account_of, port_of, stands_at, with_port}
@@ -45,7 +40,7 @@ pub record SteppedDown (old new : Room) : Type 0 where
 -- password that was offered has the stored one as its hash, by the algorithm that the account had.
 pub record Renewed (number count : ℕ) (seed : List ℕ) (new present : ℕ) (old room : Room) : Type 0 where
   pub becomes : room ≡ renewed_room old number count seed new
-  pub known : numbered number ≡ Named.Is room.algorithm
+  pub known : numbered number ≡ Some room.algorithm
   pub other : is_one_of (map lower_of seed) (remembered old) ≡ false
   pub unused : 1 < room.count
   pub old_is_hash : old.password ≡ hash old.algorithm (bytes_of present)
@@ -61,7 +56,7 @@ password_of phrase room count = password room.algorithm phrase room.seed count
 -- What was done in the table s is that the account i logged in: the answer is that count, and the account has it then, with that password and its
 -- algorithm and seeds as before.
 pub record Accepts (i count new : ℕ) (s : State) (done : After Replied) : Type 0 where
-  pub answered : done.answer ≡ Replied.Accepted count
+  pub answered : done.answer ≡ Ok count
   pub kept : account_of i done.state ≡ record {
     id = i;
     algorithm = (account_of i s).algorithm;
@@ -87,16 +82,16 @@ pub record Day (p i : ℕ) (phrase buffer : List ℕ) (s t : State) : Type 0 whe
   pub len : ℕ
   pub used : ℕ
   pub generated_as : ℕ
-  pub challenge-written : challenge p (length buffer) s ≡ Written.Wrote written
-  pub challenge_read : challenge_of (take written (leaves (Written.Wrote written) (challenge_for p s) buffer))
-      ≡ Challenge.Read algorithm count start len used true
+  pub challenge-written : challenge p (length buffer) s ≡ Ok written
+  pub challenge_read : challenge_of (take written (leaves (Ok written) (challenge_for p s) buffer))
+      ≡ a_challenge algorithm count start len used true
   pub password_generated :
-      generated (algorithm_number algorithm) phrase (seed_of (take written (leaves (Written.Wrote written) (challenge_for p s) buffer))) count
-      ≡ Reading.Password generated_as
+      generated (algorithm_number algorithm) phrase (seed_of (take written (leaves (Ok written) (challenge_for p s) buffer))) count
+      ≡ Ok generated_as
   pub algorithm_own : algorithm ≡ (account_of i s).algorithm
   pub count_less : count + 1 ≡ (account_of i s).count
   pub generated_is : generated_as ≡ password_of phrase (account_of i s) count
-  pub read_accepted : (text : List ℕ) → reply_text_of text ≡ ReplyText.Login generated_as → Accepts i count generated_as t (read_and_offered p text t)
+  pub read_accepted : (text : List ℕ) → reply_text_of text ≡ a_login generated_as → Accepts i count generated_as t (read_and_offered p text t)
   pub each_accepted : Each (λ (text : List ℕ). Accepts i count generated_as t (read_and_offered p text t)) (replies_of generated_as)
   pub raw_accepted : Accepts i count generated_as t (offer p (number_of (bytes_of generated_as)) t)
 

@@ -1,5 +1,5 @@
 -- Each call answers equal tables equally and leaves them equal: the room that an account stands in isn't seen.
-use Rattle.std.specs.Prelude.{ℕ, ◌-◌, ◌≤◌, ◌<◌, ◌≡◌, false, cond, not, ◌&&◌, List, [], ◌∷◌, map, ltb, length, get_or, set}
+use Rattle.std.specs.Prelude.{ℕ, ◌-◌, ◌≤◌, ◌<◌, ◌≡◌, false, cond, not, ◌&&◌, List, [], ◌∷◌, map, ltb, length, get_or, set, Ok, Err}
 use Rattle.std.proofs.Math.Path.{refl, sym, ap, ap₂, subst}
 use Rattle.std.proofs.Common.{◌∙◌, true≢false, arith, eq-eqb, ne_eqb, lt-ltb, ltb-true, ltb-false}
 use Rattle.std.proofs.Math.Bool.{Bool, true, false≢true}
@@ -10,8 +10,7 @@ use Rattle.std.proofs.lemmas.Bool.{eqb-false, not-true}
 use Rattle.std.proofs.Math.Dec.{eqb}
 use Rattle.std.proofs.Math.ListN.{get_or-eq_default}
 use Rattle.refusal.specs.declared.Refusal.{Refusal}
-use Rattle.refusal.specs.declared.Checked.{Checked}
-use Rattle.refusal.specs.declared.Written.{Written}
+use Rattle.refusal.specs.Answers.{Checked}
 use Rattle.refusal.specs.Checks.{must, unless, in_order}
 use Rattle.refusal.specs.Each.{each_get}
 use Rattle.refusal.specs.Laws.{must_good, both_good}
@@ -24,7 +23,6 @@ use Rattle.line.specs.Line as Line
 use Rattle.line.specs.Line.{Waiting, stands_in, front_of, joined, left, ticked}
 use Rattle.port.specs.declared.Port.{Port}
 use Rattle.port.specs.Port.{wrong_answer}
-use Rattle.table.specs.declared.Replied.{Replied}
 use Rattle.accounts.specs.Rooms.{Room}
 use Rattle.accounts.specs.Accounts.{count_within, new_room}
 use Rattle.table.specs.Table.{
@@ -232,7 +230,7 @@ module _ (P : List Port) (l m : List Held) (h : SameAccounts l m) (a : Housed (t
 
   offers_check : (port : ℕ) (what : Offered) → offer_checked port what s ≡ offer_checked port what t
   offers_check port what =
-      ap₂ (λ (k : Checked) (own : Held). unless Checked.Refused k (new_values_checked what own.account))
+      ap₂ (λ (k : Checked) (own : Held). unless Err k (new_values_checked what own.account))
       (turn_check port) (room_same port)
 
   -- ---- what is set
@@ -282,16 +280,16 @@ module _ (P : List Port) (l m : List Held) (h : SameAccounts l m) (a : Housed (t
   -- ---- the calls
 
   -- Behind checks that say the same of both tables, whatever kind the answer is.
-  checked_alike : {A : Type 0} (refuse : Refusal → A) (j k : Checked) → j ≡ k → (next other : steps.After A) → (j ≡ Checked.Good → Alike next other)
+  checked_alike : {A : Type 0} (refuse : Refusal → A) (j k : Checked) → j ≡ k → (next other : steps.After A) → (j ≡ Ok tt → Alike next other)
       → Alike (unless (λ why. record { answer = refuse why; state = s }) j next) (unless (λ why. record { answer = refuse why; state = t }) k other)
-  checked_alike refuse Checked.Good k e next other f =
+  checked_alike refuse (Ok _) k e next other f =
       subst (λ (c : Checked). Alike next (unless (λ why. record { answer = refuse why; state = t }) c other)) e (f refl)
-  checked_alike refuse (Checked.Refused why) k e next other f =
+  checked_alike refuse (Err why) k e next other f =
       subst (λ (c : Checked). Alike (record { answer = refuse why; state = s }) (unless (λ why. record { answer = refuse why; state = t }) c other)) e
       (alike (refuse why) P l m h)
 
   -- A port that joins finds room in both, and its account's line is the same.
-  joins_equal : (port id : ℕ) → join_checked port id s ≡ Checked.Good → Equal (steps.joins port id s) (steps.joins port id t)
+  joins_equal : (port id : ℕ) → join_checked port id s ≡ Ok tt → Equal (steps.joins port id s) (steps.joins port id t)
   joins_equal port id e =
       let good = join_good port id s e in
       let there = there_parts id l good.1 in
@@ -310,17 +308,17 @@ module _ (P : List Port) (l m : List Held) (h : SameAccounts l m) (a : Housed (t
   pub join_alike : (port id : ℕ) → Alike (steps.join port id s) (steps.join port id t)
   unfolding steps.join
   join_alike port id =
-      checked_alike Checked.Refused _ _ (join_check port id) _ _ (λ e. record { answer = refl; state = joins_equal port id e })
+      checked_alike Err _ _ (join_check port id) _ _ (λ e. record { answer = refl; state = joins_equal port id e })
 
   pub leave_alike : (port : ℕ) → Alike (steps.leave port s) (steps.leave port t)
   unfolding steps.leave
   leave_alike port =
-      checked_alike Checked.Refused _ _ (leave_check port) _ _ (λ e. alike Checked.Good P _ _ (lined_same (left port) l m h))
+      checked_alike Err _ _ (leave_check port) _ _ (λ e. alike (Ok tt) P _ _ (lined_same (left port) l m h))
 
   pub challenge_same : (port room : ℕ) → steps.challenge port room s ≡ steps.challenge port room t
   unfolding steps.challenge
   challenge_same port room =
-      ap₂ (λ (k : Checked) (own : Held). unless Written.Refused k
+      ap₂ (λ (k : Checked) (own : Held). unless Err k
       (challenge_written_by true own.account.algorithm own.account.seed (own.account.count - 1) room))
       (turn_check port) (room_same port)
 
@@ -359,14 +357,14 @@ module _ (P : List Port) (l m : List Held) (h : SameAccounts l m) (a : Housed (t
           (sym n) same_id)
 
       by : (b : Bool) → Alike (cond b (steps.accepted port next s) (steps.rejected port s)) (cond b (steps.accepted port next t) (steps.rejected port t))
-      by true = alike (Replied.Accepted next.count) _ _ _ (lined_same (left port) _ _ put)
-      by false = alike (Replied.Refused (wrong_answer (port_of port s))) _ _ _ (lined_same (left port) l m h)
+      by true = alike (Ok next.count) _ _ _ (lined_same (left port) _ _ put)
+      by false = alike (Err (wrong_answer (port_of port s))) _ _ _ (lined_same (left port) l m h)
 
   -- What is offered: the account that comes of it is made from the present one.
   offers_alike : (port : ℕ) (what : Offered) → Alike (offers port what s) (offers port what t)
   unfolding offers
   offers_alike port what =
-      checked_alike Replied.Refused _ _ (offers_check port what) _ _
+      checked_alike Err _ _ (offers_check port what) _ _
       (λ e.
       let g = turn_good port s (both_good (turn_checked port s) (new_values_checked what (own_account port s)) e).0 in
       subst (λ (x : Held). Alike (steps.compared port (present_in what) (next_of what (own_account port s)) s)
@@ -385,22 +383,22 @@ module _ (P : List Port) (l m : List Held) (h : SameAccounts l m) (a : Housed (t
   pub remove_alike : (id : ℕ) → Alike (steps.remove id s) (steps.remove id t)
   unfolding steps.remove
   remove_alike id =
-      checked_alike Checked.Refused _ _ (ap (λ (b : Bool). must b Refusal.AccountMissing) (there_same id)) _ _
+      checked_alike Err _ _ (ap (λ (b : Bool). must b Refusal.AccountMissing) (there_same id)) _ _
       (λ e.
       let at = there_parts id l (must_good _ _ e) in
       let to = there_parts id m (sym (there_same id) ∙ must_good _ _ e) in
-      alike Checked.Good P (set l (place_of id l) free_room) (set m (place_of id m) free_room)
+      alike (Ok tt) P (set l (place_of id l) free_room) (set m (place_of id m) free_room)
       (taken_same id (place_of id l) (place_of id m) at.0 at.1 to.1 (placed_id id l at.1) (placed_id id m to.1)))
 
   pub enrol_alike : (id number count : ℕ) (seed password : List ℕ)
       → Alike (steps.enrol id number count seed password s) (steps.enrol id number count seed password t)
   unfolding steps.enrol
   enrol_alike id number count seed password =
-      checked_alike Checked.Refused _ _ (enrol_check id number count seed) _ _
+      checked_alike Err _ _ (enrol_check id number count seed) _ _
       (λ e.
       let here = before l a e in
       let there = before m b (sym (enrol_check id number count seed) ∙ e) in
-      alike Checked.Good P _ _
+      alike (Ok tt) P _ _
       (subst (λ (w : Waiting). SameAccounts (set l (place_of 0 l) (new (room_at (place_of 0 l) s).line)) (set m (place_of 0 m) (new w)))
       (here.3 ∙ sym there.3)
       (put_same (new (room_at (place_of 0 l) s).line) (place_of 0 l) (place_of 0 m) here.0 there.0 here.1 there.1
@@ -410,7 +408,7 @@ module _ (P : List Port) (l m : List Held) (h : SameAccounts l m) (a : Housed (t
       new w = record { account = new_room id number count seed password; line = w }
 
       -- The first free room comes before any room that has the id, since none has it, and nobody waits there.
-      before : (r : List Held) → Housed (table P r) → enrol_checked id number count seed (table P r) ≡ Checked.Good
+      before : (r : List Held) → Housed (table P r) → enrol_checked id number count seed (table P r) ≡ Ok tt
           → (place_of 0 r < length r) × (place_of 0 r ≤ place_of id r) × ((get_or r (place_of 0 r) free_room).account.id ≡ 0)
           × ((get_or r (place_of 0 r) free_room).line ≡ Line.empty)
       before r k e =

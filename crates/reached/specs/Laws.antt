@@ -1,10 +1,9 @@
 -- Laws of tables: calls keep the accounts and their lines apart, treat equal tables alike, and give 53 exactly when 32 accounts are there.
-use Rattle.std.specs.Prelude.{ℕ, ◌+◌, ◌≤◌, ◌<◌, ◌≡◌, refl, ◌↔◌, Bool, true, false, cond, not, ◌&&◌, List, map, ltb, length, get_or, set}
+use Rattle.std.specs.Prelude.{ℕ, ◌+◌, ◌≤◌, ◌<◌, ◌≡◌, refl, ◌↔◌, Bool, true, false, cond, not, ◌&&◌, List, map, ltb, length, get_or, set, Ok, Err}
 use Rattle.std.proofs.Common.{sym, ap, ◌∙◌, subst, arith, eq-eqb, ne_eqb, le-ltb, lt-ltb, ltb-true, ltb-false, length-set}
 use Rattle.std.proofs.Math.Decide.{ℕ_discrete}
 use Rattle.std.proofs.lemmas.List.{length-map}
 use Rattle.refusal.specs.declared.Refusal.{Refusal}
-use Rattle.refusal.specs.declared.Checked.{Checked}
 use Rattle.refusal.specs.Checks.{must}
 use Rattle.refusal.specs.Each.{Each, each_set, each_map, each_replicate}
 use Rattle.line.specs.Line as Line
@@ -175,29 +174,29 @@ equal_calls s t a b e call =
 -- ---- 53
 
 -- "53 is given exactly when 32 accounts are there."
-pub full_exactly : (s : State) → Housed s → (room_left s ≡ Checked.Refused Refusal.TableFull) ↔ (accounts_in s.rooms ≡ 32)
+pub full_exactly : (s : State) → Housed s → (room_left s ≡ Err Refusal.TableFull) ↔ (accounts_in s.rooms ≡ 32)
 full_exactly s h = (full, refuses)
   where
     free_rooms : accounts_in s.rooms + times 0 s.rooms ≡ 32
     free_rooms = accounts_free s.rooms ∙ h.all
 
-    full : room_left s ≡ Checked.Refused Refusal.TableFull → accounts_in s.rooms ≡ 32
+    full : room_left s ≡ Err Refusal.TableFull → accounts_in s.rooms ≡ 32
     full = by (holds 0 s.rooms) refl
       where
-        by : (b : Bool) → holds 0 s.rooms ≡ b → must b Refusal.TableFull ≡ Checked.Refused Refusal.TableFull → accounts_in s.rooms ≡ 32
+        by : (b : Bool) → holds 0 s.rooms ≡ b → must b Refusal.TableFull ≡ Err Refusal.TableFull → accounts_in s.rooms ≡ 32
         by true e f = let z : ◌≡◌ {A = ℕ} 0 1 = cc in absurd (omega arith)
         by false e f = omega (arith, free_rooms, ltb-false 0 (times 0 s.rooms) (sym (holds-times 0 s.rooms) ∙ e))
 
-    refuses : accounts_in s.rooms ≡ 32 → room_left s ≡ Checked.Refused Refusal.TableFull
+    refuses : accounts_in s.rooms ≡ 32 → room_left s ≡ Err Refusal.TableFull
     refuses e =
         ap (λ (b : Bool). must b Refusal.TableFull)
         (holds-times 0 s.rooms ∙ le-ltb 0 (times 0 s.rooms) (omega (arith, free_rooms)))
 
 -- "A removed account's room is used again": after a Remove that is not refused there is room, so that 53 isn't given.
-pub removed_room_left : (id : ℕ) (s : State) → Housed s → is_there id s ≡ true → room_left (steps.remove id s).state ≡ Checked.Good
+pub removed_room_left : (id : ℕ) (s : State) → Housed s → is_there id s ≡ true → room_left (steps.remove id s).state ≡ Ok tt
 removed_room_left id s h e = rw (remove-done id s e) (left (ℕ_discrete id 0))
   where
-    left : Dec (id ≡ 0) → must (holds 0 (set s.rooms (place_of id s.rooms) free_room)) Refusal.TableFull ≡ Checked.Good
+    left : Dec (id ≡ 0) → must (holds 0 (set s.rooms (place_of id s.rooms) free_room)) Refusal.TableFull ≡ Ok tt
     left (yes d) =
         let f : is_there 0 s ≡ true = subst (λ (i : ℕ). is_there i s ≡ true) d e in
         let z : ◌≡◌ {A = ℕ} 0 1 = cc in

@@ -1,10 +1,10 @@
 -- What a port offers: a password to log in, or a renewal; and what becomes of it: behind checks its password is compared.
-use Rattle.std.specs.Prelude.{ℕ, Bool, true, false, List}
-use Rattle.refusal.specs.declared.Checked.{Checked}
+use Rattle.std.specs.Prelude.{ℕ, Bool, true, false, List, Ok, Err}
+use Rattle.refusal.specs.Answers.{Checked}
 use Rattle.refusal.specs.Checks.{unless}
 use Rattle.accounts.specs.Rooms.{Room}
 use Rattle.accounts.specs.Accounts.{lowered, renewed_room, values_checked}
-use Rattle.table.specs.declared.Replied.{Replied}
+use Rattle.table.specs.Answers.{Replied}
 use Rattle.table.specs.Table.{State, own_account}
 use Rattle.table.specs.Steps.{After, reply_refused, turn_checked, compared}
 use Rattle.reached.specs.Calls.{Call}
@@ -31,12 +31,12 @@ pub data Offers (port : ℕ) : Offered → Call → Type 0 where
 
 -- 51, 21, 23, 24, 63 for new values; there is nothing to check where there are none.
 abbrev pub new_values_checked : Offered → Room → Checked
-new_values_checked (Offered.Login password) old = Checked.Good
+new_values_checked (Offered.Login password) old = Ok tt
 new_values_checked (Offered.Renewal number count seed new password) old = values_checked number count seed old
 
 -- What Offer checks: the turn, and new values.
 abbrev pub offer_checked : ℕ → Offered → State → Checked
-offer_checked port what s = unless Checked.Refused (turn_checked port s) (new_values_checked what (own_account port s))
+offer_checked port what s = unless Err (turn_checked port s) (new_values_checked what (own_account port s))
 
 -- The present password, and what it makes of the account if it is accepted.
 abbrev pub present_in : Offered → ℕ

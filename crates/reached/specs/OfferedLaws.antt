@@ -1,11 +1,11 @@
 -- Laws of what is offered: Offer, also of a renewal, is of that form.
-use Rattle.std.specs.Prelude.{ℕ, ◌≡◌, refl, List}
+use Rattle.std.specs.Prelude.{ℕ, ◌≡◌, refl, List, Ok, Err}
 use Rattle.std.proofs.Common.{ap}
-use Rattle.refusal.specs.declared.Checked.{Checked}
+use Rattle.refusal.specs.Answers.{Checked}
 use Rattle.refusal.specs.Checks.{unless}
 use Rattle.accounts.specs.Rooms.{Room}
 use Rattle.accounts.specs.Accounts.{lowered, values_checked}
-use Rattle.table.specs.declared.Replied.{Replied}
+use Rattle.table.specs.Answers.{Replied}
 use Rattle.table.specs.Table.{State, own_account}
 use Rattle.table.specs.Steps.{After, reply_refused, turn_checked, compared, offer, renew_checked, offer_renewal}
 use Rattle.reached.specs.Calls.{Call, replied_answer, answer, after}
@@ -27,9 +27,9 @@ unfolding offer offers
 offer-offers port password s = by (turn_checked port s)
   where
     by : (k : Checked) → unless (reply_refused s) k (compared port password (lowered (own_account port s) password) s)
-        ≡ unless (reply_refused s) (unless Checked.Refused k Checked.Good) (compared port password (lowered (own_account port s) password) s)
-    by Checked.Good = refl
-    by (Checked.Refused why) = refl
+        ≡ unless (reply_refused s) (unless Err k (Ok tt)) (compared port password (lowered (own_account port s) password) s)
+    by (Ok _) = refl
+    by (Err why) = refl
 
 pub renewal_offers : (port number count : ℕ) (seed : List ℕ) (new password : ℕ) (s : State)
     → offer_renewal port number count seed new password s ≡ offers port (Offered.Renewal number count seed new password) s

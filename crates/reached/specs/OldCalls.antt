@@ -1,21 +1,20 @@
 -- Reply and Renew as R-6 left them, for R-7's sentence "Reading followed by offering gives what the old call gave" (`demands` ReadThenOffer). No function
 -- does them any more: the table's checks stood before those of the text, and those of new values between the text's layout and its passwords.
-use Rattle.std.specs.Prelude.{ℕ, List}
-use Rattle.refusal.specs.declared.Checked.{Checked}
-use Rattle.refusal.specs.declared.Reading.{Reading}
+use Rattle.std.specs.Prelude.{ℕ, List, Ok, Err}
+use Rattle.refusal.specs.Answers.{Checked, Reading}
 use Rattle.refusal.specs.Checks.{unless}
 use Rattle.password.specs.Password.{number_of}
 use Rattle.reply.specs.Reply.{reading_of}
 use Rattle.extended.specs.ReplyTexts.{Said, said_in, seed_part}
 use Rattle.accounts.specs.Accounts.{lowered, renewed_room}
-use Rattle.table.specs.declared.Replied.{Replied}
+use Rattle.table.specs.Answers.{Replied}
 use Rattle.table.specs.Table.{State, own_account}
 use Rattle.table.specs.Steps.{After, reply_refused, turn_checked, renew_checked, compared}
 
 -- "then 30 to 33": what is done with the password that a text says; a refusal to read it is the answer.
 abbrev pub read : State → Reading → (ℕ → After Replied) → After Replied
-read s (Reading.Password password) next = next password
-read s (Reading.Refused why) next = reply_refused s why
+read s (Ok password) next = next password
+read s (Err why) next = reply_refused s why
 
 -- A login, behind the turn's checks.
 unfoldable pub login_read : ℕ → Reading → State → After Replied
@@ -29,7 +28,7 @@ renewal port number count seed new present s =
 
 -- Renew: the new password was given as eight bytes, and the text was plain.
 unfoldable pub renew : ℕ → ℕ → ℕ → List ℕ → List ℕ → List ℕ → State → After Replied
-renew port number count seed new text s = renewal port number count seed (Reading.Password (number_of new)) (reading_of text) s
+renew port number count seed new text s = renewal port number count seed (Ok (number_of new)) (reading_of text) s
 
 -- Reply: 55, 59, 60, 58, then what the text says: 30, 34, 35, and a login or a renewal.
 unfoldable pub reply_by : ℕ → List ℕ → Said → State → After Replied

@@ -1,8 +1,7 @@
 -- What any call can do to any table: one of eight outcomes, with what the call's checks have established.
-use Rattle.std.specs.Prelude.{ℕ, ◌≤◌, ◌<◌, ◌≡◌, true, false, eqb}
+use Rattle.std.specs.Prelude.{ℕ, ◌≤◌, ◌<◌, ◌≡◌, true, false, eqb, Ok}
 use Rattle.std.proofs.Common.{eqb-true, ltb-true, leb-true}
 use Rattle.std.proofs.lemmas.Bool.{eqb-false, not-true}
-use Rattle.refusal.specs.declared.Checked.{Checked}
 use Rattle.line.specs.Line.{stands_in}
 use Rattle.accounts.specs.Rooms.{Room, remembered}
 use Rattle.table.specs.Table.{State, free_room, place_of, holds, is_there, line_of, port_of, waits, own_account, has_turn, with_room, with_account}
@@ -58,7 +57,7 @@ pub data Outcome (c : Call) (s : State) : State → Type 0 where
 
 -- ---- what Join's checks and a turn's establish
 
-pub join_good : (port id : ℕ) (s : State) → join_checked port id s ≡ Checked.Good
+pub join_good : (port id : ℕ) (s : State) → join_checked port id s ≡ Ok tt
     → (port ≤ 3) × (is_there id s ≡ true) × (waits port s ≡ false) × ((port_of port s).shut ≡ 0)
 join_good port id s e =
     let passed = join_passed port id s e in (
@@ -68,7 +67,7 @@ join_good port id s e =
       eqb-true (port_of port s).shut 0 passed.unshut,
     )
 
-pub turn_good : (port : ℕ) (s : State) → turn_checked port s ≡ Checked.Good → TurnGood port s
+pub turn_good : (port : ℕ) (s : State) → turn_checked port s ≡ Ok tt → TurnGood port s
 turn_good port s e =
     let passed = turn_passed port s e in
     record {

@@ -1,8 +1,7 @@
 -- Each line of a card holds the generator's password, which its hex and its words read as.
-use Rattle.std.specs.Prelude.{ℕ, ◌-◌, ◌<◌, ◌≡◌, List, [], ◌∷◌, ◌++◌}
+use Rattle.std.specs.Prelude.{ℕ, ◌-◌, ◌<◌, ◌≡◌, List, [], ◌∷◌, ◌++◌, Ok}
 use Rattle.std.proofs.Math.Path.{sym}
 use Rattle.std.proofs.Common.{◌∙◌, arith}
-use Rattle.refusal.specs.declared.Checked.{Checked}
 use Rattle.password.specs.Algorithm.{algorithm_number}
 use Rattle.password.specs.Password.{password, generated}
 use Rattle.password.specs.Laws.{generated_numbered}
@@ -19,7 +18,7 @@ use Rattle.cards.specs.Cards.{card_of}
 use Rattle.cards.specs.Laws.{card_generated}
 use Rattle.readback.specs.ReplyRead.{hex_written_read, words_read}
 
-module _ (phrase challenge : List ℕ) (k : ℕ) (e : card_checked phrase challenge k ≡ Checked.Good) where
+module _ (phrase challenge : List ℕ) (k : ℕ) (e : card_checked phrase challenge k ≡ Ok tt) where
   -- Each line's count with its words or its hex, read as a reply, is the password that the generator gives at that
   -- count by the challenge's algorithm: the card is the i lines before, the line for the count n - i, and the lines after.
   pub card_lines : (i : ℕ) → i < k →

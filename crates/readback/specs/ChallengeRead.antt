@@ -1,5 +1,5 @@
 -- What the challenge writers write reads back: the same algorithm and count, the seed in lower case, R-6's mark or none, all its bytes used.
-use Rattle.std.specs.Prelude.{ℕ, ◌+◌, ◌≤◌, ◌<◌, ◌≡◌, Bool, true, false, not, ◌&&◌, ◌||◌, eqb, leb, take, drop}
+use Rattle.std.specs.Prelude.{ℕ, ◌+◌, ◌≤◌, ◌<◌, ◌≡◌, Bool, true, false, not, ◌&&◌, ◌||◌, eqb, leb, take, drop, Some, Ok}
 use Rattle.std.proofs.Math.Path.{refl, ap, ap₂, subst}
 use Rattle.std.proofs.Common.{sym, ◌∙◌, true≢false, arith, drop-drop, ne_eqb, le-leb, leb-true, leb-false}
 use Rattle.std.proofs.Math.Bool.{cond, or-true}
@@ -8,14 +8,12 @@ use Rattle.std.proofs.Math.ListN.{length}
 use Rattle.std.proofs.lemmas.List.{length-map}
 use Rattle.std.proofs.Math.Seq.{drop-append_seam}
 use Rattle.std.proofs.lemmas.Bool.{lt-leb}
-use Rattle.refusal.specs.declared.Checked.{Checked}
 use Rattle.text.specs.Kinds.{in_token, is_blank, is_digit, is_letter, is_upper, lower_of}
 use Rattle.text.specs.Tests.{every, every_weaker, both, either, cases, same, same_self}
 use Rattle.text.specs.Scan.{run_of}
 use Rattle.text.specs.Digits.{number_of}
 use Rattle.text.specs.Quoted.{codes}
 use Rattle.password.specs.declared.algorithm.Algorithm.{Algorithm}
-use Rattle.password.specs.declared.algorithm.Named.{Named}
 use Rattle.password.specs.Algorithm.{algorithm_name, named}
 use Rattle.password.specs.AlgorithmLaws.{name_named}
 use Rattle.password.specs.PhraseAndSeed.{plain, seed_checked}
@@ -24,24 +22,8 @@ use Rattle.text.specs.Counts.{is_count, width_of, decimal_of}
 use Rattle.text.specs.CountLaws.{width_few, length_decimal}
 use Rattle.readback.specs.LaidOut.{Run}
 use Rattle.readback.specs.CountRead.{digits_decimal, decimal_count, decimal_number}
-use Rattle.challenge.specs.declared.reading.Challenge.{Challenge}
-use Rattle.challenge.specs.Challenges.{
-  opening,
-  token_at,
-  end_of,
-  next_at,
-  count_at,
-  seed_at,
-  terminated,
-  is_mark,
-  mark_at,
-  has_mark,
-  used_by,
-  challenge_of,
-  seed_of,
-  ending,
-  challenge_text,
-}
+use Rattle.challenge.specs.Challenges.{opening, token_at, end_of, next_at, count_at, seed_at, terminated, is_mark}
+use Rattle.challenge.specs.Challenges.{mark_at, has_mark, used_by, challenge_of, seed_of, ending, challenge_text, a_challenge}
 use Rattle.challenge.specs.Laws.{length_challenge, from_seed, all_good, seed_part_lem}
 use Rattle.readback.specs.StretchRead.{run_stops, run_of_lem, run_there, stretch_there, past_there}
 
@@ -85,7 +67,7 @@ plain_tokens (b ∷ s) e =
     let halves = both (is_letter b || is_digit b) (plain s) e in
     ap₂ (λ (x y : Bool). x && y) (above_space b (plain_high b halves.0)) (plain_tokens s halves.1)
 
-pub lower_good : (seed : List ℕ) → seed_checked seed ≡ Checked.Good → seed_checked (map lower_of seed) ≡ Checked.Good
+pub lower_good : (seed : List ℕ) → seed_checked seed ≡ Ok tt → seed_checked (map lower_of seed) ≡ Ok tt
 lower_good seed e =
     let good = good_seed seed e in
     let count = length-map seed lower_of in
@@ -194,7 +176,7 @@ unfolding algorithm_name codes every
 name_token Algorithm.Md5 = refl
 name_token Algorithm.Sha1 = refl
 
-module _ (ext : Bool) (algorithm : Algorithm) (seed : List ℕ) (count : ℕ) (good : seed_checked seed ≡ Checked.Good) (low : count ≤ 9999) where
+module _ (ext : Bool) (algorithm : Algorithm) (seed : List ℕ) (count : ℕ) (good : seed_checked seed ≡ Ok tt) (low : count ≤ 9999) where
   abbrev text : List ℕ
   text = challenge_text ext algorithm seed count
 
@@ -253,7 +235,7 @@ module _ (ext : Bool) (algorithm : Algorithm) (seed : List ℕ) (count : ℕ) (g
   unfolding opening codes
   opening_read = ap (λ (l : List ℕ). same (take 4 l) opening) laid ∙ same_self opening
 
-  name_read : named (token_at text 4) ≡ Named.Is algorithm
+  name_read : named (token_at text 4) ≡ Some algorithm
   name_read = ap named (token_there text 4 (algorithm_name algorithm) (32 ∷ from_count) name_run) ∙ name_named algorithm
 
   count_read : token_at text (count_at text) ≡ decimal_of count
@@ -272,16 +254,16 @@ module _ (ext : Bool) (algorithm : Algorithm) (seed : List ℕ) (count : ℕ) (g
 
   -- the algorithm, the count, the seed's place, all the bytes, and the mark exactly if it was written
   pub written_read : challenge_of (challenge_text ext algorithm seed count)
-      ≡ Challenge.Read algorithm count (6 + length (algorithm_name algorithm) + width_of count) (length seed)
+      ≡ a_challenge algorithm count (6 + length (algorithm_name algorithm) + width_of count) (length seed)
       (length (challenge_text ext algorithm seed count)) ext
   written_read =
       from_seed text opening_read algorithm name_read
       (ap is_count count_read ∙ decimal_count count low) count (ap (number_of 10) count_read ∙ decimal_number count low)
       ∙ all_good text algorithm count (seed_at text) (ap seed_checked seed_read ∙ lower_good seed good)
       (ap terminated end_there ∙ (ending_ends ext).1)
-      ∙ ap₂ (λ (s l : ℕ). Challenge.Read algorithm count s l (used_by text (seed_at text)) (has_mark text (seed_at text))) seed_at_lem
+      ∙ ap₂ (λ (s l : ℕ). a_challenge algorithm count s l (used_by text (seed_at text)) (has_mark text (seed_at text))) seed_at_lem
       (ap length seed_read ∙ length-map seed lower_of)
-      ∙ ap₂ (Challenge.Read algorithm count (6 + length (algorithm_name algorithm) + width_of count) (length seed)) used_all
+      ∙ ap₂ (a_challenge algorithm count (6 + length (algorithm_name algorithm) + width_of count) (length seed)) used_all
       (mark_read text (seed_at text) ext end_there)
 
   -- the seed in lower case

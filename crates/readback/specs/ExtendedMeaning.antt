@@ -1,10 +1,10 @@
 -- What the text of a reply says, for every text: plain without a colon; otherwise refused with 30, 34 or 35, or laid out as a login or a renewal, each
 -- part with its own meaning. And which texts are read to a login.
-use Rattle.std.specs.Prelude.{ℕ, zero, suc, ◌+◌, ◌-◌, ◌≤◌, ◌<◌, ◌≡◌, refl, ◌↔◌, Bool, true, false, cond, List, ◌∷◌, ◌++◌, eqb, leb, length}
+use Rattle.std.specs.Prelude.{ℕ, zero, suc, ◌+◌, ◌-◌, ◌≤◌, ◌<◌, ◌≡◌, refl, ◌↔◌, Bool, true}
+use Rattle.std.specs.Prelude.{false, cond, List, ◌∷◌, ◌++◌, eqb, leb, length, Option, Some, None, Ok, Err}
 use Rattle.std.proofs.Common.{sym, ◌∙◌, ap, arith, eq-eqb, ne_eqb, eqb-true, le-leb, leb-true, leb-false}
 use Rattle.std.proofs.lemmas.Bool.{eqb-false, lt-leb}
 use Rattle.refusal.specs.declared.Refusal.{Refusal}
-use Rattle.refusal.specs.declared.Reading.{Reading}
 use Rattle.text.specs.Kinds.{in_part}
 use Rattle.text.specs.Tests.{every, every_weaker, both, cases, same, same_equal}
 use Rattle.text.specs.Scan.{tokens, unspaced}
@@ -13,22 +13,9 @@ use Rattle.hex_text.specs.Hex.{sixteen_digits}
 use Rattle.reply.specs.Reply.{six_words, reading_of}
 use Rattle.reply.specs.Laws.{six_parts}
 use Rattle.extended.specs.declared.reply_types.ReplyType.{ReplyType}
-use Rattle.extended.specs.declared.reply_types.Typed.{Typed}
-use Rattle.extended.specs.declared.reply_texts.ReplyText.{ReplyText}
 use Rattle.extended.specs.ReplyTypes.{type_name, typed, is_init}
-use Rattle.extended.specs.ReplyTexts.{
-  part_at,
-  colons,
-  colons_of,
-  password_by,
-  Said,
-  layout_checked,
-  extended_of,
-  said_in,
-  with_read,
-  read_to,
-  reply_text_of,
-}
+use Rattle.extended.specs.ReplyTexts.{part_at, colons, colons_of, password_by, Said, layout_checked}
+use Rattle.extended.specs.ReplyTexts.{extended_of, said_in, with_read, read_to, reply_text_of, a_login}
 use Rattle.readback.specs.LaidOut.{OfType, TwoParts, FourParts, OfPassword}
 use Rattle.readback.specs.ReplyRefusals.{never, unread_refused}
 use Rattle.readback.specs.PartsRead.{
@@ -52,7 +39,7 @@ plain_said : (text : List ℕ) → colons text ≡ 0 → said_in text ≡ Said.L
 unfolding said_in
 plain_said text e = rw (eq-eqb (colons text) 0 e)
 
-pub plain_read : (text : List ℕ) → colons text ≡ 0 → reply_text_of text ≡ with_read (reading_of text) ReplyText.Login
+pub plain_read : (text : List ℕ) → colons text ≡ 0 → reply_text_of text ≡ with_read (reading_of text) a_login
 unfolding reply_text_of
 plain_read text e = ap read_to (plain_said text e)
 
@@ -73,7 +60,7 @@ colon_unread text h = (
     whole e = omega (arith, (no_colons text).1 e)
 
 -- "Renew's text stays plain; a colon gives 33": in a text of at most 128 bytes, since 30 comes before
-pub colon_is_33 : (text : List ℕ) → 1 ≤ colons text → length text ≤ 128 → reading_of text ≡ Reading.Refused Refusal.ReplyUnread
+pub colon_is_33 : (text : List ℕ) → 1 ≤ colons text → length text ≤ 128 → reading_of text ≡ Err Refusal.ReplyUnread
 colon_is_33 text h few = (unread_refused text few).1 (colon_unread text h)
 
 -- ---- every text is one of these
@@ -87,7 +74,7 @@ pub data Layout (text : List ℕ) : Type 0 where
   in_four : (kind : ReplyType) (present parameters new : List ℕ) → length text ≤ 256 → FourParts kind text present parameters new → Layout text
 
 -- the type that is found is the one whose name stands before the first colon
-of_type_lem : (text : List ℕ) (n : ℕ) (kind : ReplyType) → colons text ≡ suc n → typed (part_at text 0) ≡ Typed.Is kind → OfType kind text
+of_type_lem : (text : List ℕ) (n : ℕ) (kind : ReplyType) → colons text ≡ suc n → typed (part_at text 0) ≡ Some kind → OfType kind text
 of_type_lem text n kind e q =
     let first = first_part text n e in
     let name = same_equal first.0 (type_name kind) (found_by (λ k. same first.0 (type_name k)) kind
@@ -114,10 +101,10 @@ laid_out text kind few o n = by (is_init kind) refl (sym (colons_there kind text
 pub layout : (text : List ℕ) → Layout text
 layout text = by (colons text) refl
   where
-    found : (n : ℕ) → colons text ≡ suc n → length text ≤ 256 → (t : Typed) → typed (part_at text 0) ≡ t → Layout text
-    found n e few Typed.Unknown q =
+    found : (n : ℕ) → colons text ≡ suc n → length text ≤ 256 → (t : Option ReplyType) → typed (part_at text 0) ≡ t → Layout text
+    found n e few None q =
         of_none (omega arith) few (λ kind o. let p = sym q ∙ type_there kind text o.0 o.1 in never (cc))
-    found n e few (Typed.Is kind) q =
+    found n e few (Some kind) q =
         let o = of_type_lem text n kind e q in
         cases (eqb (colons text) (colons_of kind)) (λ t. laid_out text kind few o (eqb-true (colons text) (colons_of kind) t))
         (λ t. parted_wrong kind few o (eqb-false (colons text) (colons_of kind) t))
@@ -140,9 +127,9 @@ unfolding said_in extended_of layout_checked
 said_none text some few none =
     rw (ne_eqb (colons text) 0 (λ z. omega arith), le-leb (length text) 256 few, by (typed (part_at text 0)) refl)
   where
-    by : (t : Typed) → typed (part_at text 0) ≡ t → typed (part_at text 0) ≡ Typed.Unknown
-    by Typed.Unknown q = q
-    by (Typed.Is kind) q = absurd (none kind (of_type_lem text (colons text - 1) kind (omega arith) q))
+    by : (t : Option ReplyType) → typed (part_at text 0) ≡ t → typed (part_at text 0) ≡ None
+    by None q = q
+    by (Some kind) q = absurd (none kind (of_type_lem text (colons text - 1) kind (omega arith) q))
 
 abbrev pub answer_by : (text : List ℕ) → Layout text → Said
 answer_by text (is_plain z) = Said.Login (reading_of text)
@@ -164,7 +151,7 @@ answered text (in_four kind present parameters new few t) = four_said kind text 
 -- ---- logins
 
 -- a text with a colon is a login of a password exactly if its type's name, a colon and such a part are the whole text
-pub login_accepted : (text : List ℕ) → 1 ≤ colons text → (p : ℕ) → (reply_text_of text ≡ ReplyText.Login p)
+pub login_accepted : (text : List ℕ) → 1 ≤ colons text → (p : ℕ) → (reply_text_of text ≡ a_login p)
     ↔ ((kind : ReplyType) × (present : List ℕ) × (length text ≤ 256) × TwoParts kind text present × OfPassword p kind present)
 unfolding reply_text_of
 login_accepted text some p = (
@@ -172,7 +159,7 @@ login_accepted text some p = (
   λ h. ap read_to (two_said h.0 text h.1 h.3 h.2 ∙ ap Said.Login ((part_accepted h.0 h.1 p).1 h.4)),
 )
   where
-    go : (l : Layout text) → answer_by text l ≡ Said.Login (Reading.Password p)
+    go : (l : Layout text) → answer_by text l ≡ Said.Login (Ok p)
         → (kind : ReplyType) × (present : List ℕ) × (length text ≤ 256) × TwoParts kind text present × OfPassword p kind present
     go (is_plain z) e = absurd (omega arith)
     go (is_long_lem more long) e = never (cc)

@@ -1,13 +1,10 @@
 -- 02, R-6 and R-7: "A written extended reply reads back as the same one", for all four types and all that the writer takes.
-use Rattle.std.specs.Prelude.{ℕ, ◌^◌, ◌≤◌, ◌<◌, ◌≡◌, Bool, ◌||◌, eqb, length, take}
+use Rattle.std.specs.Prelude.{ℕ, ◌^◌, ◌≤◌, ◌<◌, ◌≡◌, Bool, ◌||◌, eqb, length, take, Ok, Err, Result}
 use Rattle.std.proofs.Math.Path.{refl, sym, ap, subst}
 use Rattle.std.proofs.Common.{◌∙◌, ap₂, true≢false, length-append, eqb-true}
 use Rattle.std.proofs.Math.Bool.{true, false, cond}
 use mathlib.Core.List.{List, [], ◌∷◌, ◌++◌, append_assoc, append-nil}
 use native.Mathlib.Omega.{arith}
-use Rattle.refusal.specs.declared.Checked.{Checked}
-use Rattle.refusal.specs.declared.Reading.{Reading}
-use Rattle.refusal.specs.declared.Written.{Written}
 use Rattle.refusal.specs.Laws.{not_refused}
 use Rattle.text.specs.Kinds.{is_solid, is_letter, is_digit, in_part}
 use Rattle.text.specs.KindLaws.{past_space_solid}
@@ -34,7 +31,7 @@ use Rattle.accounts.specs.Accounts.{new_checked}
 use Rattle.extended.specs.declared.reply_types.ReplyType.{ReplyType}
 use Rattle.extended.specs.declared.reply_texts.ReplyText.{ReplyText}
 use Rattle.extended.specs.ReplyTypes.{type_name, type_number, type_numbered, type_checked, type_in, is_init, is_hex}
-use Rattle.extended.specs.ReplyTexts.{colons, password_by, Said, read_to, reply_text_of, seed_part}
+use Rattle.extended.specs.ReplyTexts.{colons, password_by, Said, read_to, reply_text_of, seed_part, a_login, a_renewal}
 use Rattle.extended.specs.ReplyWriting.{
   password_text,
   login_text,
@@ -56,6 +53,7 @@ use Rattle.readback.specs.TypedParts.{found_by, type_known, two_said}
 use Rattle.readback.specs.PartMeaning.{part_accepted}
 use Rattle.readback.specs.RenewalMeaning.{renewal_accepted}
 use Rattle.readback.specs.ParametersRead.{solid_last, solid_ends, three_words, name_read, count_read}
+use Rattle.refusal.specs.declared.Refusal.{Refusal}
 
 -- ---- a password
 
@@ -68,11 +66,11 @@ unfolding password_text
 password_whole kind p =
     either (λ (l : List ℕ). colons l ≡ 0) (is_hex kind) (λ e. kind_no_colons is_hex_digit refl (hex_of p) (digits_hex 16 p)) (λ e. words_whole p)
 
-pub password_read : (kind : ReplyType) (p : ℕ) → p < 2 ^ 64 → password_by kind (password_text kind p) ≡ Reading.Password p
+pub password_read : (kind : ReplyType) (p : ℕ) → p < 2 ^ 64 → password_by kind (password_text kind p) ≡ Ok p
 unfolding password_by password_text
 password_read kind p h = by (is_hex kind)
   where
-    by : (k : Bool) → cond k (hex_reading (unspaced (cond k (hex_of p) (words_of p)))) (six_reading (cond k (hex_of p) (words_of p))) ≡ Reading.Password p
+    by : (k : Bool) → cond k (hex_reading (unspaced (cond k (hex_of p) (words_of p)))) (six_reading (cond k (hex_of p) (words_of p))) ≡ Ok p
     by true = digits_written_read p h
     by false = six_written_read p h
 
@@ -89,7 +87,7 @@ values_laid : (algorithm : Algorithm) (count : ℕ) (seed : List ℕ)
 unfolding values_text
 values_laid algorithm count seed = simp (append_assoc, append-nil)
 
-module _ (algorithm : Algorithm) (count : ℕ) (seed : List ℕ) (low : count ≤ 9999) (good : seed_checked seed ≡ Checked.Good) where
+module _ (algorithm : Algorithm) (count : ℕ) (seed : List ℕ) (low : count ≤ 9999) (good : seed_checked seed ≡ Ok tt) where
   abbrev part : List ℕ
   part = values_text algorithm count seed
 
@@ -132,7 +130,7 @@ module _ (kind : ReplyType) (password : ℕ) where
   login_parts e = record { logs_in = e; laid = login_laid; whole = password_whole kind password }
 
 module _ (kind : ReplyType) (password : ℕ) (algorithm : Algorithm) (count : ℕ) (seed : List ℕ) (new : ℕ) (low : count ≤ 9999)
-    (good : seed_checked seed ≡ Checked.Good) where
+    (good : seed_checked seed ≡ Ok tt) where
   abbrev text : List ℕ
   text = login_text kind password ++ tail_text kind algorithm count seed new
 
@@ -164,8 +162,8 @@ module _ (kind : ReplyType) (password : ℕ) (algorithm : Algorithm) (count : �
 
 module _ (kind : ReplyType) (password number count : ℕ) (seed : List ℕ) (new : ℕ) (small : password < 2 ^ 64) (new-small : new < 2 ^ 64) where
   -- what the reader is to say, by where the seed starts
-  abbrev saying : Bool → ℕ → ReplyText
-  saying init start = cond init (ReplyText.Renewal number count start (length seed) new password) (ReplyText.Login password)
+  abbrev saying : Bool → ℕ → Result ReplyText Refusal
+  saying init start = cond init (a_renewal number count start (length seed) new password) (a_login password)
 
   login_written_read : is_init kind ≡ false → Says kind password number count seed new (login_text kind password)
   unfolding reply_text_of
@@ -177,14 +175,14 @@ module _ (kind : ReplyType) (password number count : ℕ) (seed : List ℕ) (new
     seed_there = λ f. absurd (true≢false (sym f ∙ e));
   }
 
-  module _ (e : is_init kind ≡ true) (checked : new_checked number count seed ≡ Checked.Good) where
+  module _ (e : is_init kind ≡ true) (checked : new_checked number count seed ≡ Ok tt) where
     abbrev algorithm : Algorithm
     algorithm = algorithm_in (numbered number)
 
     low : count ≤ 9999
     low = (good_values number count seed checked).0
 
-    good : seed_checked seed ≡ Checked.Good
+    good : seed_checked seed ≡ Ok tt
     good = (good_values number count seed checked).2
 
     made : RenewalParts (login_text kind password ++ tail_text kind algorithm count seed new) number count seed
@@ -211,24 +209,24 @@ module _ (kind : ReplyType) (password number count : ℕ) (seed : List ℕ) (new
         record { start = read.0; said = read.1 ∙ sym (ap (λ (k : Bool). saying k read.0) e); seed_there = λ _. read.2 }
 
   -- for every type, and all that the writer takes
-  pub extended_written_read : renewal_checked kind number count seed ≡ Checked.Good
+  pub extended_written_read : renewal_checked kind number count seed ≡ Ok tt
       → Says kind password number count seed new (extended_text kind password (algorithm_in (numbered number)) count seed new)
   unfolding extended_text renewal_checked
   extended_written_read checked = by (is_init kind) refl checked
     where
-      by : (k : Bool) → is_init kind ≡ k → cond k (new_checked number count seed) Checked.Good ≡ Checked.Good
+      by : (k : Bool) → is_init kind ≡ k → cond k (new_checked number count seed) (Ok tt) ≡ Ok tt
           → Says kind password number count seed new
           (cond k (login_text kind password ++ tail_text kind (algorithm_in (numbered number)) count seed new) (login_text kind password))
       by true e f = renewal_written_read e f
       by false e f = login_written_read e
 
 -- "at most 96 bytes"
-pub extended_length : (kind : ReplyType) (password number count : ℕ) (seed : List ℕ) (new : ℕ) → renewal_checked kind number count seed ≡ Checked.Good
+pub extended_length : (kind : ReplyType) (password number count : ℕ) (seed : List ℕ) (new : ℕ) → renewal_checked kind number count seed ≡ Ok tt
     → length (extended_text kind password (algorithm_in (numbered number)) count seed new) ≤ 96
 unfolding extended_text renewal_checked
 extended_length kind password number count seed new checked = by (is_init kind) checked
   where
-    by : (k : Bool) → cond k (new_checked number count seed) Checked.Good ≡ Checked.Good
+    by : (k : Bool) → cond k (new_checked number count seed) (Ok tt) ≡ Ok tt
         → length (cond k (login_text kind password ++ tail_text kind (algorithm_in (numbered number)) count seed new) (login_text kind password)) ≤ 96
     by true f =
         let good = good_values number count seed f in
@@ -238,14 +236,14 @@ extended_length kind password number count seed new checked = by (is_init kind) 
 -- ---- what the writer left in a buffer reads back
 
 pub extended_read_back : (type password number count : ℕ) (seed : List ℕ) (new : ℕ) (b b' : List ℕ) (n : ℕ) → password < 2 ^ 64 → new < 2 ^ 64
-    → Written.Wrote n ≡ extended_written type password number count seed new (length b)
-    → b' ≡ leaves (Written.Wrote n) (text_by_numbers type password number count seed new) b
+    → Ok n ≡ extended_written type password number count seed new (length b)
+    → b' ≡ leaves (Ok n) (text_by_numbers type password number count seed new) b
     → (kind : ReplyType) × (type_number kind ≡ type) × Says kind password number count seed new (take n b')
 unfolding extended_written
 extended_read_back type password number count seed new b b' n small new-small wrote left =
     let kind = type_in (type_numbered type) in
     let text = text_by_numbers type password number count seed new in
-    let past = not_refused Written.Refused (Written.Wrote n) (λ why f. let z : ◌≡◌ {A = ℕ} 0 1 = cc in omega arith) in
+    let past = not_refused Err (Ok n) (λ why f. let z : ◌≡◌ {A = ℕ} 0 1 = cc in omega arith) in
     let known = past (type_checked (type_numbered type)) _ (sym wrote) in
     let checked = past (renewal_checked kind number count seed) _ known.1 in
     let says = extended_written_read kind password number count seed new small new-small checked.0 in (
@@ -263,8 +261,8 @@ says_one : (kind : ReplyType) (text : List ℕ) (p number count : ℕ) (seed : L
 says_one kind text p number count seed new p' number' count' seed' new' s s' = by (is_init kind) refl (sym s.said ∙ s'.said)
   where
     by : (k : Bool) → is_init kind ≡ k
-        → cond k (ReplyText.Renewal number count s.start (length seed) new p) (ReplyText.Login p)
-        ≡ cond k (ReplyText.Renewal number' count' s'.start (length seed') new' p') (ReplyText.Login p')
+        → cond k (a_renewal number count s.start (length seed) new p) (a_login p)
+        ≡ cond k (a_renewal number' count' s'.start (length seed') new' p') (a_login p')
         → (p ≡ p') × (k ≡ true → (number ≡ number') × (count ≡ count') × (seed ≡ seed') × (new ≡ new'))
     by true e f =
         let starts : s.start ≡ s'.start = cc in
@@ -274,8 +272,8 @@ says_one kind text p number count seed new p' number' count' seed' new' s s' = b
     by false e f = (cc, λ g. absurd (true≢false (sym g)))
 
 pub written_alike : (kind : ReplyType) (p number count : ℕ) (seed : List ℕ) (new p' number' count' : ℕ) (seed' : List ℕ) (new' : ℕ)
-    → p < 2 ^ 64 → new < 2 ^ 64 → renewal_checked kind number count seed ≡ Checked.Good
-    → p' < 2 ^ 64 → new' < 2 ^ 64 → renewal_checked kind number' count' seed' ≡ Checked.Good
+    → p < 2 ^ 64 → new < 2 ^ 64 → renewal_checked kind number count seed ≡ Ok tt
+    → p' < 2 ^ 64 → new' < 2 ^ 64 → renewal_checked kind number' count' seed' ≡ Ok tt
     → extended_text kind p (algorithm_in (numbered number)) count seed new ≡ extended_text kind p' (algorithm_in (numbered number')) count' seed' new'
     → (p ≡ p') × (is_init kind ≡ true → (number ≡ number') × (count ≡ count') × (seed ≡ seed') × (new ≡ new'))
 written_alike kind p number count seed new p' number' count' seed' new' h k e h' k' e' alike =

@@ -1,8 +1,8 @@
 -- 02, R-6 and R-7, and RFC 2243: how a text has to be laid out to have the mark, or to be an extended reply, and what is refused: the words in which
 -- `demands` ExtendedTexts says exactly which texts do. Parts are told by what stands in them, and not by how a reader finds them.
-use Rattle.std.specs.Prelude.{ℕ, ◌^◌, ◌≤◌, ◌<◌, ◌≡◌, Bool, true, false, cond, List, [], ◌∷◌, ◌++◌, map, eqb, ltb, length, drop}
+use Rattle.std.specs.Prelude.{ℕ, ◌^◌, ◌≤◌, ◌<◌, ◌≡◌, Bool, true, false, cond, List, [], ◌∷◌, ◌++◌, map, eqb, ltb, length, drop, Err}
 use Rattle.refusal.specs.declared.Refusal.{Refusal}
-use Rattle.refusal.specs.declared.Reading.{Reading}
+use Rattle.refusal.specs.Answers.{Reading}
 use Rattle.refusal.specs.Numbers.{listing_of}
 use Rattle.text.specs.Kinds.{lower_of, is_white, is_solid, is_blank, in_token}
 use Rattle.text.specs.Tests.{every}
@@ -15,10 +15,9 @@ use Rattle.sixwords.specs.Places.{all_places}
 use Rattle.sixwords.specs.Spelling.{six_words_of}
 use Rattle.reply.specs.Reply.{upper_text, reading_of}
 use Rattle.extended.specs.declared.reply_types.ReplyType.{ReplyType}
-use Rattle.extended.specs.declared.reply_texts.ReplyText.{ReplyText}
 use Rattle.extended.specs.ReplyTypes.{type_name, is_init, is_hex}
 use Rattle.extended.specs.Parameters.{name_number, count_in}
-use Rattle.extended.specs.ReplyTexts.{colons, colons_of, password_by, reply_text_of, seed_part}
+use Rattle.extended.specs.ReplyTexts.{colons, colons_of, password_by, reply_text_of, seed_part, a_login, a_renewal}
 
 -- All the bytes of a kind at the front of s are t, and rest is what stands past them.
 pub record Run (test : ℕ → Bool) (s t rest : List ℕ) : Type 0 where
@@ -111,14 +110,14 @@ pub record RenewalParts (text : List ℕ) (number count : ℕ) (seed : List ℕ)
 -- What such a text is read to: these values, the seed standing somewhere in it, and these passwords.
 abbrev pub SaysRenewal : List ℕ → ℕ → ℕ → List ℕ → ℕ → ℕ → Type 0
 SaysRenewal text number count seed new present =
-    (start : ℕ) × (reply_text_of text ≡ ReplyText.Renewal number count start (length seed) new present)
+    (start : ℕ) × (reply_text_of text ≡ a_renewal number count start (length seed) new present)
     × (seed_part text start (length seed) ≡ seed)
 
 -- A text is read to what its writer was given: the password; for `init` types the new values and the new password too, the seed as the part of the
 -- text where it stands.
 pub record Says (kind : ReplyType) (password number count : ℕ) (seed : List ℕ) (new : ℕ) (text : List ℕ) : Type 0 where
   pub start : ℕ
-  pub said : reply_text_of text ≡ cond (is_init kind) (ReplyText.Renewal number count start (length seed) new password) (ReplyText.Login password)
+  pub said : reply_text_of text ≡ cond (is_init kind) (a_renewal number count start (length seed) new password) (a_login password)
   pub seed_there : is_init kind ≡ true → seed_part text start (length seed) ≡ seed
 
 -- ---- refusals
@@ -144,13 +143,13 @@ pub data RefusedBy (text : List ℕ) (why : Refusal) : Type 0 where
   by_30 : why ≡ Refusal.ReplyLong → 1 ≤ colons text → 256 < length text → RefusedBy text why
   by_34 : why ≡ Refusal.TypeUnknown → 1 ≤ colons text → length text ≤ 256 → ((kind : ReplyType) → OfType kind text → ⊥) → RefusedBy text why
   by_35 : why ≡ Refusal.PartsWrong → length text ≤ 256 → (kind : ReplyType) → OfType kind text → (colons text ≡ colons_of kind → ⊥) → RefusedBy text why
-  by_plain : colons text ≡ 0 → reading_of text ≡ Reading.Refused why → RefusedBy text why
+  by_plain : colons text ≡ 0 → reading_of text ≡ Err why → RefusedBy text why
   by_login : (kind : ReplyType) (present : List ℕ) → length text ≤ 256 → TwoParts kind text present
-      → ReadAs (Reading.Refused why) kind present → RefusedBy text why
+      → ReadAs (Err why) kind present → RefusedBy text why
   by_new : (kind : ReplyType) (present parameters new : List ℕ) → length text ≤ 256 → FourParts kind text present parameters new
-      → ReadAs (Reading.Refused why) kind new → RefusedBy text why
+      → ReadAs (Err why) kind new → RefusedBy text why
   by_present : (kind : ReplyType) (present parameters new : List ℕ) → length text ≤ 256 → FourParts kind text present parameters new
-      → (p : ℕ) → OfPassword p kind new → ReadAs (Reading.Refused why) kind present → RefusedBy text why
+      → (p : ℕ) → OfPassword p kind new → ReadAs (Err why) kind present → RefusedBy text why
 
 -- What a text with a colon is refused with where it is to be plain: 30 over 128 bytes, and 33.
 abbrev pub colon_refused : List ℕ → Refusal

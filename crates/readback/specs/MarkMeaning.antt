@@ -1,6 +1,6 @@
 -- 02, R-6: the mark of a challenge that is read, exactly: "set when the next token on the seed's line is `ext`, alone or with a comma list, and is
 -- ended as a seed is; the bytes used then include it".
-use Rattle.std.specs.Prelude.{ℕ, ◌+◌, ◌≡◌, ◌↔◌, Bool, true, false, ◌&&◌, List, length, drop}
+use Rattle.std.specs.Prelude.{ℕ, ◌+◌, ◌≡◌, ◌↔◌, Bool, true, false, ◌&&◌, List, length, drop, Result, Ok, Err}
 use Rattle.std.proofs.Math.Path.{sym, ap, subst}
 use Rattle.std.proofs.Common.{◌∙◌, ap₂, arith}
 use Rattle.std.proofs.Math.Bool.{cond}
@@ -8,8 +8,10 @@ use Rattle.text.specs.Kinds.{in_token, is_blank}
 use Rattle.text.specs.Tests.{both}
 use Rattle.text.specs.Scan.{run_of}
 use Rattle.password.specs.declared.algorithm.Algorithm.{Algorithm}
+use Rattle.refusal.specs.declared.Refusal.{Refusal}
 use Rattle.challenge.specs.declared.reading.Challenge.{Challenge}
-use Rattle.challenge.specs.Challenges.{end_of, seed_at, terminated, mark_at, has_mark, used_by, challenge_of}
+use Rattle.challenge.specs.Challenges.{end_of, seed_at, terminated, mark_at, has_mark}
+use Rattle.challenge.specs.Challenges.{used_by, challenge_of, challenge_numbers, start_of, length_of, a_challenge}
 use Rattle.challenge.specs.Laws.{steps_good}
 use Rattle.readback.specs.LaidOut.{Run, MarkBehind}
 use Rattle.readback.specs.StretchRead.{run_of_lem}
@@ -40,15 +42,20 @@ mark_exactly text start = (
           ended = halves.1;
         }
 
-module _ (algorithm : Algorithm) (n s l u : ℕ) (x : Bool) (text : List ℕ) (e : challenge_of text ≡ Challenge.Read algorithm n s l u x) where
+-- whether a challenge that was read has the mark
+abbrev marked_in : Result Challenge Refusal → Bool
+marked_in (Ok read) = read.ext
+marked_in (Err why) = false
+
+module _ (algorithm : Algorithm) (n s l u : ℕ) (x : Bool) (text : List ℕ) (e : challenge_of text ≡ a_challenge algorithm n s l u x) where
   seed_end_lem : end_of text (seed_at text) ≡ s + l
-  seed_end_lem = let f = (steps_good algorithm n s l u x text e).5 in ap₂ (λ (a b : ℕ). a + b) (cc) (cc)
+  seed_end_lem = ap (λ (r : Result Challenge Refusal). start_of r + length_of r) (steps_good algorithm n s l u x text e).5
 
   mark_is : has_mark text (seed_at text) ≡ x
-  mark_is = let f = (steps_good algorithm n s l u x text e).5 in cc
+  mark_is = ap marked_in (steps_good algorithm n s l u x text e).5
 
   used_is : used_by text (seed_at text) ≡ u
-  used_is = let f = (steps_good algorithm n s l u x text e).5 in cc
+  used_is = ap (λ (r : Result Challenge Refusal). (challenge_numbers r).5) (steps_good algorithm n s l u x text e).5
 
   -- a challenge that is read has the mark exactly if it stands behind its seed
   pub read_marked : (x ≡ true) ↔ MarkBehind text (s + l)

@@ -1,9 +1,9 @@
 -- A number's places read back as it, and six places are accepted exactly if they are some number's.
-use Rattle.std.specs.Prelude.{ℕ, zero, suc, ◌+◌, ◌*◌, ◌/◌, ◌%◌, ◌^◌, ◌<◌, ◌≡◌, refl, ◌↔◌, Bool, true, false, cond, ◌&&◌, List, [], ◌∷◌, eqb, ltb, length}
+use Rattle.std.specs.Prelude.{ℕ, zero, suc, ◌+◌, ◌*◌, ◌/◌, ◌%◌, ◌^◌, ◌<◌, ◌≡◌, refl, ◌↔◌}
+use Rattle.std.specs.Prelude.{Bool, true, false, cond, ◌&&◌, List, [], ◌∷◌, eqb, ltb, length, Some, None}
 use Rattle.std.specs.Prelude.{get_or}
 use Rattle.std.proofs.Common.{arith, le_of_suc-le-suc, not-suc-le-zero, sym, ◌∙◌, ap, ltb-true, eq-eqb, eqb-true}
 use Rattle.text.specs.Tests.{both}
-use Rattle.sixwords.specs.declared.Number.{Number}
 use Rattle.sixwords.specs.Places.{pair_sum, whole, cut, places_of, joined, all_places, number_of}
 use Rattle.sixwords.specs.Laws.{Six, six, six_of_lem, cut_places}
 
@@ -83,17 +83,17 @@ joined_below s (six a b c d e f) t =
     omega arith
 
 -- what is written reads back
-pub number_places : (p : ℕ) → p < 2 ^ 64 → number_of (places_of p) ≡ Number.Is p
+pub number_places : (p : ℕ) → p < 2 ^ 64 → number_of (places_of p) ≡ Some p
 unfolding number_of places_of
 number_places p h =
     rw (joined-cut (whole p) (whole_below p h), cut_places (whole p), whole_number p, whole_sum p, eq-eqb (pair_sum p % 4) (pair_sum p % 4) refl)
 
-accepted : (s : List ℕ) → Six s → (p : ℕ) → number_of s ≡ Number.Is p → (p < 2 ^ 64) × (places_of p ≡ s)
+accepted : (s : List ℕ) → Six s → (p : ℕ) → number_of s ≡ Some p → (p < 2 ^ 64) × (places_of p ≡ s)
 unfolding number_of places_of
 accepted s l p e = go (all_places s) (eqb (pair_sum (joined 0 s / 4) % 4) (joined 0 s % 4)) refl refl e
   where
     go : (a b : Bool) → all_places s ≡ a → eqb (pair_sum (joined 0 s / 4) % 4) (joined 0 s % 4) ≡ b →
-        cond (a && b) (Number.Is (joined 0 s / 4)) Number.SumWrong ≡ Number.Is p → (p < 2 ^ 64) × (places_of p ≡ s)
+        cond (a && b) (Some (joined 0 s / 4)) None ≡ Some p → (p < 2 ^ 64) × (places_of p ≡ s)
     go true true t u e =
         let same : joined 0 s / 4 ≡ p = cc in
         let sum : pair_sum (joined 0 s / 4) % 4 ≡ joined 0 s % 4 = eqb-true (pair_sum (joined 0 s / 4) % 4) (joined 0 s % 4) u in
@@ -103,7 +103,7 @@ accepted s l p e = go (all_places s) (eqb (pair_sum (joined 0 s / 4) % 4) (joine
     go false b t u e = let z : ◌≡◌ {A = ℕ} 0 1 = cc in absurd (omega arith)
 
 -- six places are accepted as a number exactly if they are its places
-pub number_accepted : (s : List ℕ) → length s ≡ 6 → (p : ℕ) → (number_of s ≡ Number.Is p) ↔ ((p < 2 ^ 64) × (places_of p ≡ s))
+pub number_accepted : (s : List ℕ) → length s ≡ 6 → (p : ℕ) → (number_of s ≡ Some p) ↔ ((p < 2 ^ 64) × (places_of p ≡ s))
 number_accepted s n p = (accepted s (six_of_lem s n) p, (λ h. ap number_of (sym h.1) ∙ number_places p h.0))
 
 pub places_injective : (p q : ℕ) → p < 2 ^ 64 → q < 2 ^ 64 → places_of p ≡ places_of q → p ≡ q

@@ -1,13 +1,11 @@
 -- What the text of a renewal is read to: exactly which texts are read as one, and with which values and passwords.
-use Rattle.std.specs.Prelude.{ℕ, ◌+◌, ◌≤◌, ◌≡◌, refl, ◌↔◌, Bool, true, false, cond, List, eqb, length, take, drop}
+use Rattle.std.specs.Prelude.{ℕ, ◌+◌, ◌≤◌, ◌≡◌, refl, ◌↔◌, Bool, true, false, cond, List, eqb, length, take, drop, Ok}
 use Rattle.std.proofs.Common.{sym, ◌∙◌, ap, ap₂, subst, arith, eq-eqb, ne_eqb, eqb-true}
-use Rattle.refusal.specs.declared.Reading.{Reading}
 use Rattle.password.specs.Algorithm.{named}
 use Rattle.extended.specs.declared.reply_types.ReplyType.{ReplyType}
-use Rattle.extended.specs.declared.reply_texts.ReplyText.{ReplyText}
 use Rattle.extended.specs.ReplyTypes.{type_name}
 use Rattle.extended.specs.Parameters.{name_number, count_in, parameters_of}
-use Rattle.extended.specs.ReplyTexts.{Said, seed_start, said_in, read_to, reply_text_of, seed_part}
+use Rattle.extended.specs.ReplyTexts.{Said, seed_start, said_in, read_to, reply_text_of, seed_part, a_renewal}
 use Rattle.extended.specs.Laws.{parameters_within, said_within}
 use Rattle.readback.specs.LaidOut.{FourParts, OfPassword, Spaced, RenewalParts, SaysRenewal}
 use Rattle.readback.specs.ReplyRefusals.{never}
@@ -26,7 +24,7 @@ Values kind present parameters number count start len =
     × (seed_start (length (type_name kind) + length present + 2) values ≡ start)
 
 renewal_laid : (text : List ℕ) (number count start len new present : ℕ)
-    → (reply_text_of text ≡ ReplyText.Renewal number count start len new present)
+    → (reply_text_of text ≡ a_renewal number count start len new present)
     ↔ ((kind : ReplyType) × (p v n : List ℕ) × (length text ≤ 256) × FourParts kind text p v n × Values kind p v number count start len
     × OfPassword new kind n × OfPassword present kind p)
 unfolding reply_text_of
@@ -39,7 +37,7 @@ renewal_laid text number count start len new present = (
       ∙ (λ i. Said.Renewal (values.0 i) (values.1 i) (values.3 i) (values.2 i) (new_read i) (present_read i))),
 )
   where
-    go : (l : Layout text) → answer_by text l ≡ Said.Renewal number count start len (Reading.Password new) (Reading.Password present)
+    go : (l : Layout text) → answer_by text l ≡ Said.Renewal number count start len (Ok new) (Ok present)
         → (kind : ReplyType) × (p v n : List ℕ) × (length text ≤ 256) × FourParts kind text p v n × Values kind p v number count start len
         × OfPassword new kind n × OfPassword present kind p
     go (is_plain z) e = never (cc)
@@ -159,11 +157,11 @@ parameters_refuse_nothing kind text p v n few t new present f g =
 
 -- the seed stands within the text; "Where there is no seed, the part is the empty one at the start of the text"
 pub seed_stands_within : (text : List ℕ) (number count start len new present : ℕ)
-    → reply_text_of text ≡ ReplyText.Renewal number count start len new present → (start + len ≤ length text) × (len ≡ 0 → start ≡ 0)
+    → reply_text_of text ≡ a_renewal number count start len new present → (start + len ≤ length text) × (len ≡ 0 → start ≡ 0)
 unfolding reply_text_of
 seed_stands_within text number count start len new present e =
     let h = (renewal_laid text number count start len new present).0 e in (
-      said_within text number count start len (Reading.Password new) (Reading.Password present)
+      said_within text number count start len (Ok new) (Ok present)
           ((renewal_from (said_in text) number count start len new present).0 e),
       λ z.
           sym h.6.3
@@ -175,7 +173,7 @@ seed_stands_within text number count start len new present e =
 -- and the white space before, between and behind them
 pub seed_stands_there : (kind : ReplyType) (text p v n : List ℕ) → length text ≤ 256 → FourParts kind text p v n
     → (name word seed : List ℕ) (s : Spaced v name word seed) → 1 ≤ length seed
-    → (number count start len new present : ℕ) → reply_text_of text ≡ ReplyText.Renewal number count start len new present
+    → (number count start len new present : ℕ) → reply_text_of text ≡ a_renewal number count start len new present
     → start ≡ length (type_name kind) + length p + 2 + (length s.white + length name + length s.white₁ + length word + length s.white₂)
 unfolding reply_text_of
 seed_stands_there kind text p v n few t name word seed s some number count start len new present e =

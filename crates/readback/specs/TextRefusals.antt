@@ -1,12 +1,10 @@
 -- 02, R-7: what reading a text refuses, and what for. A text is refused exactly in the cases of `RefusedBy`, and with 30, 34 and 35 exactly in these.
-use Rattle.std.specs.Prelude.{ℕ, zero, suc, ◌≤◌, ◌<◌, ◌≡◌, refl, ◌↔◌, ◌⊎◌, cond, List, eqb, length}
+use Rattle.std.specs.Prelude.{ℕ, zero, suc, ◌≤◌, ◌<◌, ◌≡◌, refl, ◌↔◌, ◌⊎◌, cond, List, eqb, length, Ok, Err}
 use Rattle.std.proofs.Common.{sym, ◌∙◌, ap, subst, inl, inr, arith, eq-eqb, ne_eqb}
 use Rattle.refusal.specs.declared.Refusal.{Refusal}
-use Rattle.refusal.specs.declared.Reading.{Reading}
 use Rattle.refusal.specs.Numbers.{listing_of}
 use Rattle.reply.specs.Reply.{reading_of}
 use Rattle.extended.specs.declared.reply_types.ReplyType.{ReplyType}
-use Rattle.extended.specs.declared.reply_texts.ReplyText.{ReplyText}
 use Rattle.extended.specs.ReplyTexts.{colons, colons_of, password_by, Said, said_in, read_to, reply_text_of}
 use Rattle.readback.specs.LaidOut.{
   OfType,
@@ -32,11 +30,11 @@ use Rattle.readback.specs.ReadTo.{Unread, refused_from}
 use Rattle.readback.specs.ExtendedMeaning.{Layout, is_plain, is_long_lem, of_none, parted_wrong, in_two, in_four, layout, answer_by, answered}
 
 -- by what it says
-said_refused : (text : List ℕ) (said : Said) → said_in text ≡ said → (why : Refusal) → (reply_text_of text ≡ ReplyText.Refused why) ↔ Unread why said
+said_refused : (text : List ℕ) (said : Said) → said_in text ≡ said → (why : Refusal) → (reply_text_of text ≡ Err why) ↔ Unread why said
 unfolding reply_text_of
 said_refused text said e why = (λ f. (refused_from said why).0 (sym (ap read_to e) ∙ f), λ u. ap read_to e ∙ (refused_from said why).1 u)
 
-pub text_refused : (text : List ℕ) (why : Refusal) → (reply_text_of text ≡ ReplyText.Refused why) ↔ RefusedBy text why
+pub text_refused : (text : List ℕ) (why : Refusal) → (reply_text_of text ≡ Err why) ↔ RefusedBy text why
 text_refused text why = (λ e. let l = layout text in go l ((said_refused text (answer_by text l) (answered text l) why).0 e), back)
   where
     go : (l : Layout text) → Unread why (answer_by text l) → RefusedBy text why
@@ -49,10 +47,10 @@ text_refused text why = (λ e. let l = layout text in go l ((said_refused text (
     go (in_four kind present parameters new few t) (inr u) =
         by_present kind present parameters new few t u.0 ((part_accepted kind new u.0).0 u.1) u.2
 
-    so : (l : Layout text) → Unread why (answer_by text l) → reply_text_of text ≡ ReplyText.Refused why
+    so : (l : Layout text) → Unread why (answer_by text l) → reply_text_of text ≡ Err why
     so l = (said_refused text (answer_by text l) (answered text l) why).1
 
-    back : RefusedBy text why → reply_text_of text ≡ ReplyText.Refused why
+    back : RefusedBy text why → reply_text_of text ≡ Err why
     back (by_30 q some long) = so (is_long_lem some long) (sym q)
     back (by_34 q some few none) = so (of_none some few none) (sym q)
     back (by_35 q few kind o other) = so (parted_wrong kind few o other) (sym q)
@@ -64,35 +62,35 @@ text_refused text why = (λ e. let l = layout text in go l ((said_refused text (
 
 -- a text of two parts for its password alone
 pub login_refused : (kind : ReplyType) (text present : List ℕ) → length text ≤ 256 → TwoParts kind text present → (why : Refusal)
-    → (reply_text_of text ≡ ReplyText.Refused why) ↔ ReadAs (Reading.Refused why) kind present
+    → (reply_text_of text ≡ Err why) ↔ ReadAs (Err why) kind present
 login_refused kind text present few t = said_refused text (Said.Login (password_by kind present)) (two_said kind text present t few)
 
 -- one of four for the new password, and where that is one for the present one; not for its parameters
 pub renewal_refused : (kind : ReplyType) (text present parameters new : List ℕ) → length text ≤ 256 → FourParts kind text present parameters new
-    → (why : Refusal) → (reply_text_of text ≡ ReplyText.Refused why)
-    ↔ (ReadAs (Reading.Refused why) kind new ⊎ ((p : ℕ) × OfPassword p kind new × ReadAs (Reading.Refused why) kind present))
+    → (why : Refusal) → (reply_text_of text ≡ Err why)
+    ↔ (ReadAs (Err why) kind new ⊎ ((p : ℕ) × OfPassword p kind new × ReadAs (Err why) kind present))
 renewal_refused kind text present parameters new few t why =
     let exactly = said_refused text _ (four_said kind text present parameters new t few) why in
     (λ e. go (exactly.0 e), λ u. exactly.1 (back u))
   where
-    go : (ReadAs (Reading.Refused why) kind new ⊎ ((p : ℕ) × ReadAs (Reading.Password p) kind new × ReadAs (Reading.Refused why) kind present))
-        → ReadAs (Reading.Refused why) kind new ⊎ ((p : ℕ) × OfPassword p kind new × ReadAs (Reading.Refused why) kind present)
+    go : (ReadAs (Err why) kind new ⊎ ((p : ℕ) × ReadAs (Ok p) kind new × ReadAs (Err why) kind present))
+        → ReadAs (Err why) kind new ⊎ ((p : ℕ) × OfPassword p kind new × ReadAs (Err why) kind present)
     go (inl u) = inl u
     go (inr u) = inr (u.0, (part_accepted kind new u.0).0 u.1, u.2)
 
-    back : (ReadAs (Reading.Refused why) kind new ⊎ ((p : ℕ) × OfPassword p kind new × ReadAs (Reading.Refused why) kind present))
-        → ReadAs (Reading.Refused why) kind new ⊎ ((p : ℕ) × ReadAs (Reading.Password p) kind new × ReadAs (Reading.Refused why) kind present)
+    back : (ReadAs (Err why) kind new ⊎ ((p : ℕ) × OfPassword p kind new × ReadAs (Err why) kind present))
+        → ReadAs (Err why) kind new ⊎ ((p : ℕ) × ReadAs (Ok p) kind new × ReadAs (Err why) kind present)
     back (inl u) = inl u
     back (inr u) = inr (u.0, (part_accepted kind new u.0).1 u.1, u.2)
 
 -- 30 to 35, and no other
-pub refused_why : (text : List ℕ) (why : Refusal) → reply_text_of text ≡ ReplyText.Refused why → Between 30 35 why
+pub refused_why : (text : List ℕ) (why : Refusal) → reply_text_of text ≡ Err why → Between 30 35 why
 refused_why text why e = go ((text_refused text why).0 e)
   where
     is : (other : Refusal) → why ≡ other → Between 30 35 other → Between 30 35 why
     is other q = subst (Between 30 35) (sym q)
 
-    of_part : (kind : ReplyType) (part : List ℕ) → ReadAs (Reading.Refused why) kind part → Between 30 35 why
+    of_part : (kind : ReplyType) (part : List ℕ) → ReadAs (Err why) kind part → Between 30 35 why
     of_part kind part r = let n = part-why kind part why r in (omega (arith, n.0), omega (arith, n.1))
 
     go : RefusedBy text why → Between 30 35 why
@@ -106,10 +104,10 @@ refused_why text why e = go ((text_refused text why).0 e)
 
 -- ---- 30, 34 and 35 each by itself
 
-pub long_text : (text : List ℕ) → (reply_text_of text ≡ ReplyText.Refused Refusal.ReplyLong) ↔ (most_bytes text < length text)
+pub long_text : (text : List ℕ) → (reply_text_of text ≡ Err Refusal.ReplyLong) ↔ (most_bytes text < length text)
 long_text text = (λ e. go ((text_refused text Refusal.ReplyLong).0 e), λ h. (text_refused text Refusal.ReplyLong).1 (back (colons text) refl h))
   where
-    of_part : (kind : ReplyType) (part : List ℕ) → ReadAs (Reading.Refused Refusal.ReplyLong) kind part → ⊥
+    of_part : (kind : ReplyType) (part : List ℕ) → ReadAs (Err Refusal.ReplyLong) kind part → ⊥
     of_part kind part r = omega (arith, (part-why kind part Refusal.ReplyLong r).0)
 
     go : RefusedBy text Refusal.ReplyLong → most_bytes text < length text
@@ -126,13 +124,13 @@ long_text text = (λ e. go ((text_refused text Refusal.ReplyLong).0 e), λ h. (t
     back (suc n) e h = by_30 refl (omega arith) (rw (ne_eqb (suc n) 0 (λ z. omega arith)) at h)
 
 -- no password is refused with 34 or 35
-plain_read_why : (text : List ℕ) (why : Refusal) → 33 < (listing_of why).0 → reading_of text ≡ Reading.Refused why → ⊥
+plain_read_why : (text : List ℕ) (why : Refusal) → 33 < (listing_of why).0 → reading_of text ≡ Err why → ⊥
 plain_read_why text why h r = omega (arith, (reading_why text why r).1)
 
-part_read_why : (kind : ReplyType) (part : List ℕ) (why : Refusal) → 33 < (listing_of why).0 → ReadAs (Reading.Refused why) kind part → ⊥
+part_read_why : (kind : ReplyType) (part : List ℕ) (why : Refusal) → 33 < (listing_of why).0 → ReadAs (Err why) kind part → ⊥
 part_read_why kind part why h r = omega (arith, (part-why kind part why r).1)
 
-pub type_unknown : (text : List ℕ) → (reply_text_of text ≡ ReplyText.Refused Refusal.TypeUnknown)
+pub type_unknown : (text : List ℕ) → (reply_text_of text ≡ Err Refusal.TypeUnknown)
     ↔ ((1 ≤ colons text) × (length text ≤ 256) × ((kind : ReplyType) → OfType kind text → ⊥))
 type_unknown text = (
   λ e. go ((text_refused text Refusal.TypeUnknown).0 e),
@@ -148,7 +146,7 @@ type_unknown text = (
     go (by_new kind present parameters new few t r) = absurd (part_read_why kind new Refusal.TypeUnknown (omega arith) r)
     go (by_present kind present parameters new few t p n r) = absurd (part_read_why kind present Refusal.TypeUnknown (omega arith) r)
 
-pub parts_wrong : (text : List ℕ) → (reply_text_of text ≡ ReplyText.Refused Refusal.PartsWrong)
+pub parts_wrong : (text : List ℕ) → (reply_text_of text ≡ Err Refusal.PartsWrong)
     ↔ ((length text ≤ 256) × (kind : ReplyType) × OfType kind text × (colons text ≡ colons_of kind → ⊥))
 parts_wrong text = (
   λ e. go ((text_refused text Refusal.PartsWrong).0 e),

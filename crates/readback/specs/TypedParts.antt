@@ -1,5 +1,5 @@
 -- A text that is laid out as an extended reply of a type, and what it then says, part by part.
-use Rattle.std.specs.Prelude.{ℕ, suc, ◌+◌, ◌≤◌, ◌≡◌, refl, Bool, true, false, List, ◌∷◌, ◌++◌, take, drop}
+use Rattle.std.specs.Prelude.{ℕ, suc, ◌+◌, ◌≤◌, ◌≡◌, refl, Bool, true, false, List, ◌∷◌, ◌++◌, take, drop, Option, Some, None, Ok}
 use Rattle.std.proofs.Common.{sym, ◌∙◌, arith, length-drop, drop-drop}
 use Rattle.std.proofs.Math.Path.{ap}
 use Rattle.std.proofs.Math.Bool.{cond}
@@ -7,11 +7,9 @@ use Rattle.std.proofs.Math.ListN.{length}
 use Rattle.std.proofs.lemmas.List.{drop-append-le, take-append-le}
 use borrow.Author.Tests.{le-leb, eq-eqb, ne_eqb}
 use Rattle.refusal.specs.declared.Refusal.{Refusal}
-use Rattle.refusal.specs.declared.Checked.{Checked}
 use Rattle.text.specs.Quoted.{codes}
 use Rattle.text.specs.Tests.{same}
 use Rattle.extended.specs.declared.reply_types.ReplyType.{ReplyType}
-use Rattle.extended.specs.declared.reply_types.Typed.{Typed}
 use Rattle.extended.specs.ReplyTypes.{type_name, type_by, typed, type_checked, type_in}
 use Rattle.extended.specs.Parameters.{parameters_of}
 use Rattle.extended.specs.ReplyTexts.{
@@ -36,7 +34,7 @@ use Rattle.readback.specs.PartsRead.{colons_part, part_there, after_there, last_
 
 -- ---- a type by its name or number
 
-pub name_typed : (kind : ReplyType) → typed (type_name kind) ≡ Typed.Is kind
+pub name_typed : (kind : ReplyType) → typed (type_name kind) ≡ Some kind
 unfolding type_name codes same
 name_typed ReplyType.Hex = refl
 name_typed ReplyType.Word = refl
@@ -51,12 +49,12 @@ name_whole ReplyType.InitHex = refl
 name_whole ReplyType.InitWord = refl
 
 -- a test that finds a type finds it of that type
-pub found_by : (test : ReplyType → Bool) (kind : ReplyType) → type_by test ≡ Typed.Is kind → test kind ≡ true
+pub found_by : (test : ReplyType → Bool) (kind : ReplyType) → type_by test ≡ Some kind → test kind ≡ true
 found_by test kind = by (test ReplyType.Hex) (test ReplyType.Word) (test ReplyType.InitHex) (test ReplyType.InitWord) refl refl refl refl
   where
     by : (a b c d : Bool) → test ReplyType.Hex ≡ a → test ReplyType.Word ≡ b → test ReplyType.InitHex ≡ c → test ReplyType.InitWord ≡ d
-        → cond a (Typed.Is ReplyType.Hex) (cond b (Typed.Is ReplyType.Word) (cond c (Typed.Is ReplyType.InitHex)
-        (cond d (Typed.Is ReplyType.InitWord) Typed.Unknown))) ≡ Typed.Is kind → test kind ≡ true
+        → cond a (Some ReplyType.Hex) (cond b (Some ReplyType.Word) (cond c (Some ReplyType.InitHex)
+        (cond d (Some ReplyType.InitWord) None))) ≡ Some kind → test kind ≡ true
     by true b c d f g h i e = let same : ReplyType.Hex ≡ kind = cc in ap test (sym same) ∙ f
     by false true c d f g h i e = let same : ReplyType.Word ≡ kind = cc in ap test (sym same) ∙ g
     by false false true d f g h i e = let same : ReplyType.InitHex ≡ kind = cc in ap test (sym same) ∙ h
@@ -64,9 +62,9 @@ found_by test kind = by (test ReplyType.Hex) (test ReplyType.Word) (test ReplyTy
     by false false false false f g h i e = let z : ◌≡◌ {A = ℕ} 0 1 = cc in absurd (omega arith)
 
 -- a check that finds nothing wrong has found a type
-pub type_known : (found : Typed) → type_checked found ≡ Checked.Good → found ≡ Typed.Is (type_in found)
-type_known (Typed.Is kind) e = refl
-type_known Typed.Unknown e = let z : ◌≡◌ {A = ℕ} 0 1 = cc in absurd (omega arith)
+pub type_known : (found : Option ReplyType) → type_checked found ≡ Ok tt → found ≡ Some (type_in found)
+type_known (Some kind) e = refl
+type_known None e = let z : ◌≡◌ {A = ℕ} 0 1 = cc in absurd (omega arith)
 
 -- ---- a text that starts with a type's name and a colon
 
@@ -78,7 +76,7 @@ module _ (kind : ReplyType) (text rest : List ℕ) (laid : text ≡ type_name ki
   name_there : part_at text 0 ≡ type_name kind
   name_there = part_there text 0 (type_name kind) rest laid (name_whole kind)
 
-  pub type_there : typed (part_at text 0) ≡ Typed.Is kind
+  pub type_there : typed (part_at text 0) ≡ Some kind
   type_there = ap typed name_there ∙ name_typed kind
 
   present_at_lem : present_at text ≡ length (type_name kind) + 1

@@ -1,10 +1,10 @@
 -- The numbers of document 01, 'Refusal numbers', and the marks that 31 carries; then the number and values of each enum answer.
-use Rattle.std.specs.Prelude.{ℕ}
+use Rattle.std.specs.Prelude.{ℕ, Ok, Err}
 use Rattle.refusal.specs.declared.Refusal.{Refusal}
 use Rattle.refusal.specs.declared.Listing.{Listing}
-use Rattle.refusal.specs.declared.Checked.{Checked}
-use Rattle.refusal.specs.declared.Reading.{Reading}
-use Rattle.refusal.specs.declared.Written.{Written}
+use Rattle.refusal.specs.Answers.{Checked}
+use Rattle.refusal.specs.Answers.{Reading}
+use Rattle.refusal.specs.Answers.{Written}
 
 -- "A refusal returns its number, and 31 its place", which 02, R-2 makes marks: the number, then the marks, 0 with every other.
 abbrev pub listing_of : Refusal → Listing
@@ -48,18 +48,18 @@ abbrev pub unrefused : Listing
 unrefused = record { 0 = 0; 1 = 0 }
 
 abbrev pub checked_numbers : Checked → Listing
-checked_numbers Checked.Good = unrefused
-checked_numbers (Checked.Refused why) = listing_of why
+checked_numbers (Ok _) = unrefused
+checked_numbers (Err why) = listing_of why
 
 -- and the password
 abbrev pub reading_numbers : Reading → Listing × ℕ
-reading_numbers (Reading.Password password) = (unrefused, password)
-reading_numbers (Reading.Refused why) = (listing_of why, 0)
+reading_numbers (Ok password) = (unrefused, password)
+reading_numbers (Err why) = (listing_of why, 0)
 
 abbrev pub password_in : Reading → ℕ
 password_in r = (reading_numbers r).1
 
 -- and the bytes written
 abbrev pub written_numbers : Written → Listing × ℕ
-written_numbers (Written.Wrote n) = (unrefused, n)
-written_numbers (Written.Refused why) = (listing_of why, 0)
+written_numbers (Ok n) = (unrefused, n)
+written_numbers (Err why) = (listing_of why, 0)

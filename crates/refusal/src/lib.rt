@@ -5,7 +5,7 @@ ghost use Rattle.std.specs.Prelude.{◌≡◌};
 ghost use Rattle.refusal.specs.Numbers.{listing_of};
 
 // What is wrong, in the order of the paper's table. The paper's number stands beside each.
-#[derive(Clone, Copy)]
+#[derive(Clone, Copy, Debug, PartialEq, Eq)]
 pub enum Refusal {
     PhraseShort, // 10
     PhraseLong, // 11
@@ -42,25 +42,13 @@ pub enum Refusal {
 }
 
 // Nothing wrong, or what is.
-#[derive(Clone, Copy)]
-pub enum Checked {
-    Good,
-    Refused(Refusal),
-}
+pub type Checked = Result<(), Refusal>;
 
 // A password as a number, first byte most significant, or why there is none.
-#[derive(Clone, Copy)]
-pub enum Reading {
-    Password(u64),
-    Refused(Refusal),
-}
+pub type Reading = Result<u64, Refusal>;
 
 // How many bytes stand at the front of the lent buffer, or why none were written.
-#[derive(Clone, Copy)]
-pub enum Written {
-    Wrote(usize),
-    Refused(Refusal),
-}
+pub type Written = Result<usize, Refusal>;
 
 // A refusal as the papers list it: its number, then the marks that 31 carries (0 with every other).
 #[derive(Clone, Copy)]

@@ -1,4 +1,3 @@
 -- Laws that the proofs of this crate cite.
 pub mod WordsScanned
 pub mod Paired
-pub mod WordPlaces

@@ -6,13 +6,13 @@ use mathlib.Core.Logic.{◌⊎◌, inl, inr}
 use mathlib.Core.List.{List, [], ◌∷◌, ◌++◌, append_assoc, append-nil}
 use native.Mathlib.Omega.{arith}
 use native.Mathlib.Numerals.{add-one}
-use lib.Dec.{ltb, eqb}
+use lib.Dec.{eqb}
 use lib.ListN.{length, get_or, take, drop, set, drop_of_length-le, length-set}
-use lib.Seq.{drop-cons, drop-set-lt, take-suc-set, take-take}
+use lib.Seq.{drop-cons, drop-set-lt, take-suc-set}
 use borrow.Author.Tests.{eq-eqb, ne_eqb, le-leb, lt-ltb, le-ltb}
 use Rattle.text.specs.Digits.{digit_value}
 use Rattle.text.specs.Tests.{every, same, second_fails}
-use Rattle.replay.specs.declared.word_values.Bytes.{Bytes}
+use Rattle.std.specs.Prelude.{None, Some}
 use Rattle.replay.specs.ReplayWords.{digit_in, is_digit_of, bytes_in, pairs_in, text_in}
 use Rattle.replay.proofs.WordsScanned.{digit_value_lem}
 
@@ -25,15 +25,7 @@ pub record Paired (v w : List ℕ) (i : ℕ) : Type 0 where
 pub none_paired : (v : List ℕ) → Paired v v 0
 none_paired v = record { same_length = refl; digits = refl; bytes = refl }
 
--- a byte is a digit, or not
-no_digit : (b d : ℕ) → d ≡ digit_in b → 15 < d → is_digit_of 16 b ≡ false
-no_digit b d e h = ap (λ (x : ℕ). ltb x 16) (sym e) ∙ le-ltb d 16 (omega arith)
-
-is_digit_lem : (b d : ℕ) → d ≡ digit_in b → d < 16 → is_digit_of 16 b ≡ true
-is_digit_lem b d e h = ap (λ (x : ℕ). ltb x 16) (sym e) ∙ lt-ltb d 16 h
-
-module _ (v w : List ℕ) (i high low : ℕ) (inside : 2 * i + 1 < length w) (first : high ≡ digit_in (get_or w (2 * i) 0))
-    (second : low ≡ digit_in (get_or w (2 * i + 1) 0)) (p : Paired v w i) where
+module _ (v w : List ℕ) (i : ℕ) (inside : 2 * i + 1 < length w) (p : Paired v w i) where
   abbrev a : ℕ
   a = get_or w (2 * i) 0
 
@@ -55,33 +47,35 @@ module _ (v w : List ℕ) (i high low : ℕ) (inside : 2 * i + 1 < length w) (fi
   digits_next = p.digits ∙ ap (every (is_digit_of 16)) rest
 
   -- one of the two is no digit
-  pub bad_pair : (15 < high) ⊎ (15 < low) → pairs_in v ≡ Bytes.Bad
-  bad_pair h = ap (λ (t : Bool). cond t (Bytes.Are (length v / 2)) Bytes.Bad) (ap (λ (t : Bool). eqb (length v % 2) 0 && t) (none h)
-      ∙ never (eqb (length v % 2) 0))
+  pub bad_pair : (digit_in a < 16 → ⊥) ⊎ (digit_in b < 16 → ⊥) → None ≡ pairs_in v
+  bad_pair h =
+      sym (ap (λ (t : Bool). cond t (Some (bytes_in v)) None) (ap (λ (t : Bool). eqb (length v % 2) 0 && t) (none h) ∙ never (eqb (length v % 2) 0)))
     where
       never : (t : Bool) → (t && false) ≡ false
       never true = refl
       never false = refl
 
-      none : (15 < high) ⊎ (15 < low) → every (is_digit_of 16) v ≡ false
-      none (inl h) = digits_next ∙ ap (λ (t : Bool). t && (is_digit_of 16 b && every (is_digit_of 16) (drop (2 * (i + 1)) w))) (no_digit a high first h)
+      none : (digit_in a < 16 → ⊥) ⊎ (digit_in b < 16 → ⊥) → every (is_digit_of 16) v ≡ false
+      none (inl h) =
+          digits_next ∙ ap (λ (t : Bool). t && (is_digit_of 16 b && every (is_digit_of 16) (drop (2 * (i + 1)) w))) (le-ltb (digit_in a) 16 (omega arith))
       none (inr h) =
           digits_next
-          ∙ ap (λ (t : Bool). is_digit_of 16 a && (t && every (is_digit_of 16) (drop (2 * (i + 1)) w))) (no_digit b low second h)
+          ∙ ap (λ (t : Bool). is_digit_of 16 a && (t && every (is_digit_of 16) (drop (2 * (i + 1)) w))) (le-ltb (digit_in b) 16 (omega arith))
           ∙ never (is_digit_of 16 a)
 
   -- both are
-  pub next_paired : high < 16 → low < 16 → Paired v (set w i (high * 16 + low)) (i + 1)
+  pub next_paired : (high low : ℕ) → (digit_in a < 16) × (high ≡ digit_in a) → (digit_in b < 16) × (low ≡ digit_in b)
+      → Paired v (set w i (high * 16 + low)) (i + 1)
   unfolding bytes_in
-  next_paired h l =
+  next_paired high low (h, first) (l, second) =
       let kept : drop (2 * (i + 1)) (set w i (high * 16 + low)) ≡ drop (2 * (i + 1)) w = drop-set-lt (2 * (i + 1)) w i (high * 16 + low) (omega arith) in
       let byte : digit_value a * 16 + digit_value b
-      ≡ high * 16 + low = ap₂ (λ (x y : ℕ). x * 16 + y) (digit_value_lem a high first h) (digit_value_lem b low second l) in
+      ≡ high * 16 + low = ap₂ (λ (x y : ℕ). x * 16 + y) (digit_value_lem a high first (omega arith)) (digit_value_lem b low second (omega arith)) in
       record {
         same_length = length-set w i (high * 16 + low) ∙ p.same_length;
         digits =
             digits_next
-            ∙ ap₂ (λ (t u : Bool). t && (u && every (is_digit_of 16) (drop (2 * (i + 1)) w))) (is_digit_lem a high first h) (is_digit_lem b low second l)
+            ∙ ap₂ (λ (t u : Bool). t && (u && every (is_digit_of 16) (drop (2 * (i + 1)) w))) (lt-ltb (digit_in a) 16 h) (lt-ltb (digit_in b) 16 l)
             ∙ ap (every (is_digit_of 16)) (sym kept);
         bytes =
             p.bytes
@@ -93,18 +87,18 @@ module _ (v w : List ℕ) (i high low : ℕ) (inside : 2 * i + 1 < length w) (fi
       }
 
 -- all pairs
-pub all_paired : (v w : List ℕ) → length v % 2 ≡ 0 → Paired v w (length v / 2)
-    → (Bytes.Are (length v / 2) ≡ pairs_in v) × (take (length v / 2) w ≡ take (length v / 2) (bytes_in v))
+pub all_paired : (v w : List ℕ) → length v % 2 ≡ 0 → Paired v w (length v / 2) → Some (take (length v / 2) w) ≡ pairs_in v
 unfolding every bytes_in
 all_paired v w even p =
     let n = length v / 2 in
     let all : length w ≤ 2 * n = omega (arith, p.same_length) in
     let none : drop (2 * n) w ≡ [] = drop_of_length-le w all in
     let digits : every (is_digit_of 16) v ≡ true = p.digits ∙ ap (every (is_digit_of 16)) none in
-    let bytes : bytes_in v ≡ take n w = p.bytes ∙ ap (λ (l : List ℕ). take n w ++ bytes_in l) none ∙ append-nil (take n w) in (
-      sym (ap₂ (λ (t u : Bool). cond (t && u) (Bytes.Are n) Bytes.Bad) (eq-eqb (length v % 2) 0 even) digits),
-      sym (ap (take n) bytes ∙ take-take n n w (omega arith)),
-    )
+    let bytes : bytes_in v ≡ take n w = p.bytes ∙ ap (λ (l : List ℕ). take n w ++ bytes_in l) none ∙ append-nil (take n w) in
+    ap Some (sym bytes) ∙ sym (ap₂ (λ (t u : Bool). cond (t && u) (Some (bytes_in v)) None) (eq-eqb (length v % 2) 0 even) digits)
+
+-- what decides pairs: one that is none, or that all are
+pub ruleset pair_laws = (bad_pair, all_paired)
 
 -- a text that is no dash
 longer_text : (w : List ℕ) → (length w ≡ 1 → ⊥) → same w (45 ∷ []) ≡ false
@@ -116,13 +110,13 @@ longer_text (b ∷ d ∷ w) f = second_fails (eqb b 45) false refl
 text_pairs : (w : List ℕ) → same w (45 ∷ []) ≡ false → (length w ≡ 0 → ⊥) → text_in w ≡ pairs_in w
 unfolding text_in
 text_pairs w e f =
-    ap₂ (λ (t u : Bool). cond t (Bytes.Are 0) (cond u (pairs_in w) Bytes.Bad)) e (le-leb 1 (length w) (omega arith))
+    ap₂ (λ (t u : Bool). cond t (Some []) (cond u (pairs_in w) None)) e (le-leb 1 (length w) (omega arith))
 
-pairs_odd : (w : List ℕ) → (length w % 2 ≡ 0 → ⊥) → pairs_in w ≡ Bytes.Bad
-pairs_odd w f = ap (λ (t : Bool). cond (t && every (is_digit_of 16) w) (Bytes.Are (length w / 2)) Bytes.Bad) (ne_eqb (length w % 2) 0 f)
+pairs_odd : (w : List ℕ) → (length w % 2 ≡ 0 → ⊥) → pairs_in w ≡ None
+pairs_odd w f = ap (λ (t : Bool). cond (t && every (is_digit_of 16) w) (Some (bytes_in w)) None) (ne_eqb (length w % 2) 0 f)
 
 -- each case of a text
-pub text_empty : (w : List ℕ) → length w ≡ 0 → text_in w ≡ Bytes.Bad
+pub text_empty : (w : List ℕ) → length w ≡ 0 → text_in w ≡ None
 unfolding text_in same
 text_empty [] e = refl
 text_empty (b ∷ w) e = absurd (omega arith)
@@ -130,18 +124,21 @@ text_empty (b ∷ w) e = absurd (omega arith)
 pub text_even : (w : List ℕ) → (length w ≡ 0 → ⊥) → length w % 2 ≡ 0 → text_in w ≡ pairs_in w
 text_even w f e = text_pairs w (longer_text w (λ g. omega arith)) f
 
-pub text_dash : (w : List ℕ) → length w ≡ 1 → get_or w 0 0 ≡ 45 → text_in w ≡ Bytes.Are 0
+pub text_dash : (w : List ℕ) → length w ≡ 1 → get_or w 0 0 ≡ 45 → text_in w ≡ Some []
 unfolding text_in same
 text_dash [] e g = absurd (omega arith)
-text_dash (b ∷ []) e g = ap (λ (t : Bool). cond (t && true) (Bytes.Are 0) (cond true (pairs_in (b ∷ [])) Bytes.Bad)) (eq-eqb b 45 g)
+text_dash (b ∷ []) e g = ap (λ (t : Bool). cond (t && true) (Some []) (cond true (pairs_in (b ∷ [])) None)) (eq-eqb b 45 g)
 text_dash (b ∷ d ∷ w) e g = absurd (omega arith)
 
-pub text_byte : (w : List ℕ) → length w ≡ 1 → (get_or w 0 0 ≡ 45 → ⊥) → text_in w ≡ Bytes.Bad
+pub text_byte : (w : List ℕ) → length w ≡ 1 → (get_or w 0 0 ≡ 45 → ⊥) → text_in w ≡ None
 unfolding same
 text_byte [] e g = absurd (omega arith)
 text_byte (b ∷ []) e g =
     text_pairs (b ∷ []) (ap (λ (t : Bool). t && true) (ne_eqb b 45 g)) (λ h. omega arith) ∙ pairs_odd (b ∷ []) (λ h. omega arith)
 text_byte (b ∷ d ∷ w) e g = absurd (omega arith)
 
-pub text_odd : (w : List ℕ) → (length w % 2 ≡ 0 → ⊥) → (length w ≡ 1 → ⊥) → text_in w ≡ Bytes.Bad
+pub text_odd : (w : List ℕ) → (length w % 2 ≡ 0 → ⊥) → (length w ≡ 1 → ⊥) → text_in w ≡ None
 text_odd w f g = text_pairs w (longer_text w g) (λ e. f (ap (λ (n : ℕ). n % 2) e)) ∙ pairs_odd w f
+
+-- what decides a text, by its cases
+pub ruleset text_laws = (text_empty, text_even, text_dash, text_byte, text_odd)

@@ -1,31 +1,25 @@
-// What a writer is lent: the first ROOM bytes of a buffer that is filled with one byte.
-ghost use Rattle.std.specs.Prelude.{◌≡◌, length};
+// What a writer is lent: the first bytes of a buffer that is filled with one byte.
+use crate::printing::written;
+use refusal::Written;
+use std::io;
 
 const FILL: u8 = 0xaa;
 
-pub fn filled() -> [u8; 8192]
-    ensures { 8192 ≡ length result }
-{
-    [FILL; 8192]
-}
-
-// The first n bytes; all of them where there are no more.
-pub fn first(buf: &mut [u8], n: u64) -> &mut [u8] {
-    let room = n as usize;
-    if room < buf.len() {
-        return &mut buf[..room];
-    }
-    buf
-}
-
 // Whether no byte of it was changed.
 pub fn is_untouched(lent: &[u8]) -> bool {
-    let mut i = 0;
-    while i < lent.len() {
-        if lent[i] != FILL {
-            return false;
-        }
-        i += 1;
-    }
-    true
+    lent.iter().all(|b| *b == FILL)
+}
+
+// Answers by a writer, which is lent that many bytes, of 8,192 at most.
+pub fn writer<F: FnOnce(&mut [u8]) -> Written>(
+    to: io::Stdout,
+    room: usize,
+    write: F,
+) -> io::Result<()>
+    requires { F.IsAlwaysCallable write }
+{
+    let mut buf = [FILL; 8192];
+    let lent = &mut buf[..room.min(8192)];
+    let result = write(lent);
+    written(to, result, lent)
 }

@@ -1,201 +1,144 @@
-// The calls on the table, each of which hands it back.
-ghost use Rattle.std.specs.Prelude.{length};
-ghost use Rattle.replay.specs.ReplayWords.{Within};
-
-use crate::dump::dump;
-use crate::lending::{filled, first};
-use crate::printing::{checked, ok, plain, replied, reply_read, written};
-use crate::script_words::{Given, number, port, short, text};
+// The calls on the table.
+use crate::dump::Dump;
+use crate::lending::writer;
+use crate::names::TableCall;
+use crate::printing::{checked, ok, refused, replied};
+use crate::script_words::Values;
 use extended::reply_texts::{ReplyText, seed_part};
 use password::eight_bytes::bytes_of;
-use refusal::Reading;
+use refusal::Checked;
 use std::io;
-use table::{Answered, Settled, Table};
+use table::{Answered, Replied, Settled, Table};
 
-fn settled(to: io::Stdout, res: Settled) -> io::Result<Table> {
-    let answer = res.answer;
-    checked(to, answer)?;
-    Ok(res.table)
-}
-
-fn answered(to: io::Stdout, res: Answered) -> io::Result<Table> {
-    let answer = res.answer;
-    replied(to, answer)?;
-    Ok(res.table)
-}
-
-fn new(to: io::Stdout) -> io::Result<Table> {
-    ok(to)?;
-    Ok(table::fresh())
-}
-
-fn enrol(to: io::Stdout, line: &[u8], given: Given, table: Table) -> io::Result<Table>
-    requires { Within given (length line.now) }
-{
-    let bytes = bytes_of(number(given, 4));
-    let seed = text(line, given, 3);
-    let algorithm = short(given, 1) as u32;
-    settled(
-        to,
-        login::enrol(
-            table,
-            short(given, 0),
-            algorithm,
-            short(given, 2),
-            seed,
-            &bytes,
-        ),
-    )
-}
-
-fn remove(to: io::Stdout, given: Given, table: Table) -> io::Result<Table> {
-    settled(to, login::remove(table, short(given, 0)))
-}
-
-fn join(to: io::Stdout, given: Given, table: Table) -> io::Result<Table> {
-    settled(to, login::join(table, port(given), short(given, 1)))
-}
-
-fn leave(to: io::Stdout, given: Given, table: Table) -> io::Result<Table> {
-    settled(to, login::leave(table, port(given)))
-}
-
-fn challenge(to: io::Stdout, given: Given, table: Table) -> io::Result<Table> {
-    let mut buf = filled();
-    let lent = first(&mut buf, number(given, 1));
-    let result = login::challenge(table, port(given), lent);
-    written(to, result, lent)?;
-    Ok(table)
-}
-
-fn offer(to: io::Stdout, given: Given, table: Table, password: u64) -> io::Result<Table> {
-    answered(to, login::offer(table, port(given), password))
-}
-
-// A renewal whose values and new password are words of the line.
-fn offer_renewal(
-    to: io::Stdout,
-    line: &[u8],
-    given: Given,
+// A table, and beside it the bytes for the older seeds of its accounts.
+#[derive(Drop)]
+pub struct Controller {
     table: Table,
-    older: &mut [u8; 3808],
-    password: u64,
-) -> io::Result<Table>
-    requires { Within given (length line.now) }
-{
-    let algorithm = short(given, 1) as u32;
-    let seed = text(line, given, 3);
-    answered(
-        to,
-        login::offer_renewal(
-            table,
-            older,
-            port(given),
-            algorithm,
-            short(given, 2),
-            seed,
-            number(given, 4),
-            password,
-        ),
-    )
+    older: [u8; 3808],
 }
 
-// What a text that is no login was read to: a renewal is offered, and a refusal is the answer.
-fn offer_read(
-    to: io::Stdout,
-    read: ReplyText,
-    typed: &[u8],
-    table: Table,
-    older: &mut [u8; 3808],
-    port: u8,
-) -> io::Result<Table> {
-    let ReplyText::Renewal {
-        algorithm,
-        count,
-        start,
-        len,
-        new,
-        present,
-    } = read
-    else {
-        reply_read(to, read, typed)?;
-        return Ok(table);
-    };
-    let seed = seed_part(typed, start, len);
-    answered(
-        to,
-        login::offer_renewal(table, older, port, algorithm, count, seed, new, present),
-    )
-}
-
-fn reply(
-    to: io::Stdout,
-    line: &[u8],
-    given: Given,
-    table: Table,
-    older: &mut [u8; 3808],
-) -> io::Result<Table>
-    requires { Within given (length line.now) }
-{
-    let typed = text(line, given, 1);
-    let read = extended::reply_texts::read(typed);
-    let ReplyText::Login(password) = read else {
-        return offer_read(to, read, typed, table, older, port(given));
-    };
-    offer(to, given, table, password)
-}
-
-fn renew(
-    to: io::Stdout,
-    line: &[u8],
-    given: Given,
-    table: Table,
-    older: &mut [u8; 3808],
-) -> io::Result<Table>
-    requires { Within given (length line.now) }
-{
-    let read = reply::read(text(line, given, 5));
-    let Reading::Password(password) = read else {
-        plain(to, read)?;
-        return Ok(table);
-    };
-    offer_renewal(to, line, given, table, older, password)
-}
-
-fn ticks(to: io::Stdout, table: Table, n: u64) -> io::Result<Table> {
-    let mut t = table;
-    let mut k = 0;
-    while k < n {
-        t = login::tick(t);
-        k += 1;
+impl Controller {
+    // What the bytes for older seeds hold at the start doesn't matter.
+    pub fn new() -> Controller {
+        Controller {
+            table: table::fresh(),
+            older: [0xaa; 3808],
+        }
     }
-    ok(to)?;
-    Ok(t)
-}
 
-// Answers a call whose words are of its kinds, by its number.
-pub fn answer(
-    to: io::Stdout,
-    call: usize,
-    line: &[u8],
-    given: Given,
-    table: Table,
-    older: &mut [u8; 3808],
-) -> io::Result<Table>
-    requires { Within given (length line.now) }
-{
-    match call {
-        13 => new(to),
-        14 => enrol(to, line, given, table),
-        15 => remove(to, given, table),
-        16 => join(to, given, table),
-        17 => leave(to, given, table),
-        18 => challenge(to, given, table),
-        19 => reply(to, line, given, table, older),
-        20 => renew(to, line, given, table, older),
-        21 => offer(to, given, table, number(given, 1)),
-        22 => offer_renewal(to, line, given, table, older, number(given, 5)),
-        23 => ticks(to, table, number(given, 0)),
-        _ => dump(to, table, older),
+    // Keeps the table that a call handed back, and hands on what it answered. Two, since the crate `table` has a type for either answer.
+    fn settled(&mut self, made: Settled) -> Checked {
+        self.table = made.table;
+        made.answer
+    }
+
+    fn answered(&mut self, made: Answered) -> Replied {
+        self.table = made.table;
+        made.answer
+    }
+
+    fn enrol(&mut self, id: u16, values: Values) -> Checked {
+        let bytes = bytes_of(values.password);
+        self.settled(login::enrol(
+            self.table,
+            id,
+            values.algorithm,
+            values.count,
+            values.seed,
+            &bytes,
+        ))
+    }
+
+    fn offer_renewal(&mut self, port: u8, values: Values, present: u64) -> Replied {
+        let made = login::offer_renewal(
+            self.table,
+            &mut self.older,
+            port,
+            values.algorithm,
+            values.count,
+            values.seed,
+            values.password,
+            present,
+        );
+        self.answered(made)
+    }
+
+    // What a text says is offered; a refusal is the answer.
+    fn reply(&mut self, to: io::Stdout, port: u8, text: &[u8]) -> io::Result<()> {
+        match extended::reply_texts::read(text) {
+            Ok(ReplyText::Login(password)) => {
+                replied(to, self.answered(login::offer(self.table, port, password)))
+            }
+            Ok(
+                ReplyText::Renewal {
+                    algorithm,
+                    count,
+                    start,
+                    len,
+                    new,
+                    present,
+                },
+            ) => {
+                let values = Values {
+                    algorithm,
+                    count,
+                    seed: seed_part(text, start, len),
+                    password: new,
+                };
+                replied(to, self.offer_renewal(port, values, present))
+            }
+            Err(why) => refused(to, why),
+        }
+    }
+
+    fn renew(&mut self, to: io::Stdout, port: u8, values: Values, text: &[u8]) -> io::Result<()> {
+        match reply::read(text) {
+            Ok(present) => replied(to, self.offer_renewal(port, values, present)),
+            Err(why) => refused(to, why),
+        }
+    }
+
+    fn tick(&mut self, n: u64) {
+        for _ in 0..n {
+            self.table = login::tick(self.table);
+        }
+    }
+
+    pub fn answer(&mut self, to: io::Stdout, call: TableCall) -> io::Result<()> {
+        let table = self.table;
+        match call {
+            TableCall::New => {
+                self.table = table::fresh();
+                ok(to)
+            }
+            TableCall::Enrol { id, values } => checked(to, self.enrol(id, values)),
+            TableCall::Remove { id } => checked(to, self.settled(login::remove(table, id))),
+            TableCall::Join { port, id } => checked(to, self.settled(login::join(table, port, id))),
+            TableCall::Leave { port } => checked(to, self.settled(login::leave(table, port))),
+            TableCall::Challenge { port, room } => {
+                writer(to, room, |lent| login::challenge(table, port, lent))
+            }
+            TableCall::Reply { port, text } => self.reply(to, port, text),
+            TableCall::Renew { port, values, text } => self.renew(to, port, values, text),
+            TableCall::Offer { port, password } => {
+                replied(to, self.answered(login::offer(table, port, password)))
+            }
+            TableCall::OfferRenewal {
+                port,
+                values,
+                present,
+            } => replied(to, self.offer_renewal(port, values, present)),
+            TableCall::Tick(n) => {
+                self.tick(n);
+                ok(to)
+            }
+            TableCall::Dump => println!(to;
+                "ok {}",
+                Dump {
+                    table: &self.table,
+                    older: &self.older,
+                }
+            ),
+        }
     }
 }

@@ -1,11 +1,9 @@
 -- What the inner functions answer: nothing that a reader of the documents needs.
-use Rattle.std.specs.Prelude.{ℕ, ◌+◌, true, false, cond, List, map, ltb, length, take, drop, replicate}
+use Rattle.std.specs.Prelude.{ℕ, ◌+◌, cond, List, map, ltb, length, take, drop, Option, Some, None}
 use Rattle.refusal.specs.declared.Refusal.{Refusal}
 use Rattle.text.specs.Kinds.{is_white, is_solid}
 use Rattle.text.specs.Scan.{run_of}
 use Rattle.dictionary.specs.Dictionary.{packed}
-use Rattle.reply.specs.declared.typed_words.Word.{Word}
-use Rattle.reply.specs.declared.typed_words.Six.{Six}
 use Rattle.reply.specs.Reply.{is_word, six_words, upper_text}
 
 -- the first token of a text; nothing where there is none
@@ -23,12 +21,12 @@ abbrev pub packed_token : List ℕ → ℕ
 packed_token t = packed (upper_text t)
 
 -- a token packed, if it could be a word
-abbrev pub word_of : List ℕ → Word
-word_of t = cond (is_word t) (Word.Packed (packed_token t)) Word.Other
+abbrev pub word_of : List ℕ → Option ℕ
+word_of t = cond (is_word t) (Some (packed_token t)) None
 
--- the tokens packed, if they are six words; zeros else
-abbrev pub six_of : List (List ℕ) → Six
-six_of ts = cond (six_words ts) (record { are = true; words = map packed_token ts }) (record { are = false; words = replicate 6 0 })
+-- the tokens packed, if they are six words
+abbrev pub six_of : List (List ℕ) → Option (List ℕ)
+six_of ts = cond (six_words ts) (Some (map packed_token ts)) None
 
 -- what is wrong with words that have no number, by their marks
 abbrev pub why_not : ℕ → Refusal

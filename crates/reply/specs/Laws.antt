@@ -1,5 +1,5 @@
 -- Laws of tokens that could be words, and of marks.
-use Rattle.std.specs.Prelude.{ℕ, zero, suc, ◌+◌, ◌*◌, ◌/◌, ◌%◌, ◌^◌, ◌≤◌, ◌<◌, ◌≡◌, true, ◌&&◌, List, [], ◌∷◌, eqb, leb, length, get_or}
+use Rattle.std.specs.Prelude.{ℕ, zero, suc, ◌+◌, ◌*◌, ◌/◌, ◌%◌, ◌^◌, ◌≤◌, ◌<◌, ◌≡◌, true, ◌&&◌, List, [], ◌∷◌, eqb, leb, length, get_or, Option, Some, None}
 use Rattle.std.proofs.Common.{pow-suc, arith, sym, ap, ◌∙◌, leb-true, eqb-true}
 use Rattle.std.proofs.Math.Nat.{pow-succ', div-div-eq-div-mul}
 use Rattle.std.proofs.lemmas.List.{length-map}
@@ -7,7 +7,6 @@ use Rattle.std.proofs.Math.ListN.{get_or-map}
 use Rattle.text.specs.Kinds.{is_letter, upper_of}
 use Rattle.text.specs.KindLaws.{letter_upper}
 use Rattle.text.specs.Tests.{every, every_at, both}
-use Rattle.dictionary.specs.declared.Found.{Found}
 use Rattle.dictionary.specs.Laws.{Spelt}
 use Rattle.reply.specs.Reply.{is_word, six_words, upper_text, mark_of, marks_of}
 
@@ -41,32 +40,32 @@ six_parts ts e =
 
 -- ---- marks
 
-mark_few : (f : Found) → mark_of f ≤ 1
-mark_few (Found.At place) = omega arith
-mark_few Found.Nothing = omega arith
+mark_few : (f : Option ℕ) → mark_of f ≤ 1
+mark_few (Some place) = omega arith
+mark_few None = omega arith
 
 -- n words have marks below 2 ^ n
-pub marks_within : (found : List Found) → marks_of found < 2 ^ length found
+pub marks_within : (found : List (Option ℕ)) → marks_of found < 2 ^ length found
 unfolding marks_of
 marks_within [] = omega arith
 marks_within (f ∷ found) = rw (pow-suc 2 (length found)) (omega (arith, mark_few f, marks_within found))
 
 -- one word's mark and then the others: what lies past it is theirs
-marks_past : (f : Found) (m i : ℕ) → (mark_of f + 2 * m) / 2 ^ suc i ≡ m / 2 ^ i
+marks_past : (f : Option ℕ) (m i : ℕ) → (mark_of f + 2 * m) / 2 ^ suc i ≡ m / 2 ^ i
 marks_past f m i =
     let half : (mark_of f + 2 * m) / 2 ≡ m = omega (arith, mark_few f) in
     ap (λ (n : ℕ). (mark_of f + 2 * m) / n) (pow-succ' 2 i) ∙ sym (div-div-eq-div-mul (mark_of f + 2 * m) 2 (2 ^ i))
     ∙ ap (λ (n : ℕ). n / 2 ^ i) half
 
 -- bit i is the mark of the word that i others stand before
-pub marks_at : (found : List Found) (i : ℕ) (d : Found) → i < length found → marks_of found / 2 ^ i % 2 ≡ mark_of (get_or found i d)
+pub marks_at : (found : List (Option ℕ)) (i : ℕ) (d : Option ℕ) → i < length found → marks_of found / 2 ^ i % 2 ≡ mark_of (get_or found i d)
 unfolding marks_of
 marks_at [] i d h = absurd (omega arith)
 marks_at (f ∷ found) zero d h = omega (arith, mark_few f)
 marks_at (f ∷ found) (suc i) d h = ap (λ (n : ℕ). n % 2) (marks_past f (marks_of found) i) ∙ marks_at found i d (omega arith)
 
 -- and there is one number with these bits
-pub marks_only : (found : List Found) (m : ℕ) (d : Found) → m < 2 ^ length found
+pub marks_only : (found : List (Option ℕ)) (m : ℕ) (d : Option ℕ) → m < 2 ^ length found
     → ((i : ℕ) → i < length found → m / 2 ^ i % 2 ≡ mark_of (get_or found i d)) → m ≡ marks_of found
 unfolding marks_of
 marks_only [] m d h e = omega arith

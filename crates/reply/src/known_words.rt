@@ -4,29 +4,25 @@ ghost use Rattle.dictionary.specs.Dictionary.{found_of};
 ghost use Rattle.reply.specs.Inside.{why_not};
 ghost use Rattle.reply.specs.Reply.{mark_of, place_in, found_reading};
 
-use dictionary::Found;
 use refusal::{Reading, Refusal};
-use sixwords::{Number, number_of};
+use sixwords::number_of;
 use wordlist::place_of;
 
-// Where a word was found; 2,048, which no word has, where it was not.
-fn place_in(found: Found) -> usize
+// Where a word was found; 2,048, which no word has, where it was not, as the definition has it (`place_in`).
+fn place_in(found: Option<usize>) -> usize
     ensures { result ≡ place_in found }
 {
-    match found {
-        Found::At(place) => place,
-        Found::Nothing => 2048,
-    }
+    found.unwrap_or(2048)
 }
 
 // The marks of a word and of those after it: its own is the lowest.
-fn marked(found: Found, after: u8) -> u8
+fn marked(found: Option<usize>, after: u8) -> u8
     requires { after ≤ 63 }
     ensures { result ≡ mark_of found + 2 * after }
 {
     match found {
-        Found::At(_) => after << 1,
-        Found::Nothing => (after << 1) + 1,
+        Some(_) => after << 1,
+        None => (after << 1) + 1,
     }
 }
 
@@ -41,23 +37,15 @@ fn why_not(marks: u8) -> Refusal
     }
 }
 
-// The password that six packed words stand for. They are looked up from the last to the first, so that the marks are those of the
+// The password that six packed words stand for. They are gone through from the last to the first, so that the marks are those of the
 // words behind, doubled, and the word's own. The places have no number where one is 2,048; `why_not` then says which refusal it is.
 pub fn read_words(words: [u32; 6]) -> Reading
     ensures { result ≡ found_reading (map found_of words) }
 {
-    let mut places = [0usize; 6];
+    let found = words.map(place_of);
     let mut marks: u8 = 0;
-    let mut k: usize = 6;
-    while 0 < k {
-        k -= 1;
-        let found = place_of(words[k]);
-        places[k] = place_in(found);
-        marks = marked(found, marks);
+    for k in (0..6).rev() {
+        marks = marked(found[k], marks);
     }
-    let number = number_of(places);
-    match number {
-        Number::Is(p) => Reading::Password(p),
-        Number::SumWrong => Reading::Refused(why_not(marks)),
-    }
+    number_of(found.map(place_in)).ok_or(why_not(marks))
 }

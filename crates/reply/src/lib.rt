@@ -18,12 +18,10 @@ mod known_words;
 pub fn read_six(text: &[u8]) -> Reading
     ensures { result ≡ six_reading text.now }
 {
-    let six = six_words(text);
-    if six.are {
-        let packed = six.words;
-        return read_words(packed);
+    match six_words(text) {
+        Some(words) => read_words(words),
+        None => Err(Refusal::ReplyUnread),
     }
-    Reading::Refused(Refusal::ReplyUnread)
 }
 
 // The password that a plain reply says, in six words or in hex.
@@ -31,12 +29,10 @@ pub fn read(text: &[u8]) -> Reading
     ensures { result ≡ reading_of text.now }
 {
     if 128 < text.len() {
-        return Reading::Refused(Refusal::ReplyLong);
+        return Err(Refusal::ReplyLong);
     }
-    let six = six_words(text);
-    if six.are {
-        let packed = six.words;
-        return read_words(packed);
+    match six_words(text) {
+        Some(words) => read_words(words),
+        None => read_hex(text),
     }
-    read_hex(text)
 }

@@ -9,7 +9,7 @@ use native.Mathlib.Omega.{arith}
 use lib.Dec.{ltb}
 use lib.ListN.{get_or}
 use Rattle.digests.specs.declared.FiveWords.{FiveWords}
-use Rattle.digests.specs.Sha1.{f, K, schedule, step_with, step, steps, summed, compressed}
+use Rattle.digests.specs.Sha1.{f, K, schedule, step_with, step, steps, eighty}
 use Rattle.sha1_hash.specs.Inside.{scheduled, following, step_of, four_of, sixteen_of}
 use Rattle.sha1_hash.proofs.Scheduled.{get_d_schedule, scheduled_first, scheduled-following}
 
@@ -77,16 +77,15 @@ module _ (M : List ℕ) (h : FiveWords) where
       ∙ after-steps (schedule M 80) w h t
       (λ j below. sym (scheduled_first w j below) ∙ g j ∙ sym (get_d_schedule M 80 (t + j) (omega arith))) 16 (omega arith)
 
-  pub compressed_by_sixteen : (w₁ w₂ w₃ w₄ : List ℕ) (v₁ v₂ v₃ v₄ v₅ r : FiveWords)
+  pub eighty_by_sixteen : (w₁ w₂ w₃ w₄ : List ℕ) (v₁ v₂ v₃ v₄ v₅ : FiveWords)
       → v₁ ≡ sixteen_of 0 M h
       → w₁ ≡ following M → v₂ ≡ sixteen_of 16 w₁ v₁
       → w₂ ≡ following w₁ → v₃ ≡ sixteen_of 32 w₂ v₂
       → w₃ ≡ following w₂ → v₄ ≡ sixteen_of 48 w₃ v₃
       → w₄ ≡ following w₃ → v₅ ≡ sixteen_of 64 w₄ v₄
-      → r ≡ summed v₅ h
-      → r ≡ compressed M h
-  unfolding compressed steps
-  compressed_by_sixteen w₁ w₂ w₃ w₄ v₁ v₂ v₃ v₄ v₅ r e₁ f₁ e₂ f₂ e₃ f₃ e₄ f₄ e₅ last =
+      → v₅ ≡ eighty M h
+  unfolding steps
+  eighty_by_sixteen w₁ w₂ w₃ w₄ v₁ v₂ v₃ v₄ v₅ e₁ f₁ e₂ f₂ e₃ f₃ e₄ f₄ e₅ =
       let g₀ : GoesOn M 0 = λ s. (let same : s ≡ 0 + s = omega arith in ap (scheduled M) same) in
       let g₁ : GoesOn w₁ 16 = on_following M w₁ 0 f₁ g₀ in
       let g₂ : GoesOn w₂ 32 = on_following w₁ w₂ 16 f₂ g₁ in
@@ -96,5 +95,4 @@ module _ (M : List ℕ) (h : FiveWords) where
       let s₂ = on_sixteen w₁ 16 v₁ v₂ refl (omega arith) g₁ s₁ e₂ in
       let s₃ = on_sixteen w₂ 32 v₂ v₃ refl (omega arith) g₂ s₂ e₃ in
       let s₄ = on_sixteen w₃ 48 v₃ v₄ refl (omega arith) g₃ s₃ e₄ in
-      let s₅ = on_sixteen w₄ 64 v₄ v₅ refl (omega arith) g₄ s₄ e₅ in
-      last ∙ ap (λ (v : FiveWords). summed v h) s₅
+      on_sixteen w₄ 64 v₄ v₅ refl (omega arith) g₄ s₄ e₅

@@ -6,6 +6,7 @@ use Rattle.digests.specs.Lists.{up_to}
 use Rattle.digests.specs.Sha1.{Ch, Parity, Maj, K, word_at, schedule, step_with}
 use Rattle.block.specs.declared.by_four.Four.{Four}
 use Rattle.block.specs.ByFour.{four_at}
+use Rattle.sha1_hash.specs.declared.eighty_steps.Quarter.{Quarter}
 
 -- Word t of the schedule that begins with the sixteen words M, and the sixteen words after those.
 unfoldable pub scheduled : List ℕ → ℕ → ℕ
@@ -14,7 +15,13 @@ scheduled M t = word_at M t (schedule M t)
 unfoldable pub following : List ℕ → List ℕ
 following M = up_to 16 (λ j. scheduled M (16 + j))
 
--- The function and the constant of a quarter of the steps.
+-- The number of a quarter of the steps, and its function and constant.
+abbrev pub number : Quarter → ℕ
+number Quarter.First = 0
+number Quarter.Second = 1
+number Quarter.Third = 2
+number Quarter.Fourth = 3
+
 abbrev pub function_of : ℕ → ℕ → ℕ → ℕ → ℕ
 function_of quarter = cond (eqb quarter 0) Ch (cond (eqb quarter 1) Parity (cond (eqb quarter 2) Maj Parity))
 

@@ -1,15 +1,22 @@
 // FIPS 180-4, 6.1.2, 3: the steps on the working variables.
-ghost use Rattle.std.specs.Prelude.{◌≡◌, ◌≤◌};
+ghost use Rattle.std.specs.Prelude.{◌≡◌};
 ghost use Rattle.digests.specs.Sha1 as spec;
 ghost use Rattle.sha1_hash.specs.Inside as code;
+ghost use Rattle.sha1_hash.specs.Inside.{number};
 
-use crate::eighty_steps::functions::{ch, maj, parity};
+use crate::schedule::following;
 use block::arithmetic::{add, rotated};
+use block::bitwise::{choice, parity};
 use block::by_four::{Four, part};
+use block::hashing::{HashFunction, Words};
 use digests::FiveWords;
 
-// The functions on words.
-mod functions;
+// 4.1.1: the bits that two of the three have.
+fn maj(x: u32, y: u32, z: u32) -> u32
+    ensures { result ≡ spec.Maj x y z }
+{
+    (x & y) ^ (x & z) ^ (y & z)
+}
 
 // One step: f is the function at b, c, d, and k the constant.
 fn step(v: FiveWords, f: u32, k: u32, w: u32) -> FiveWords
@@ -24,21 +31,30 @@ fn step(v: FiveWords, f: u32, k: u32, w: u32) -> FiveWords
     }
 }
 
-// One step of a quarter, 0 to 3: 4.1.1 and 4.2.1 have its function and its constant.
-fn step_of(quarter: u32, v: FiveWords, w: u32) -> FiveWords
-    ensures { result ≡ code.step_of quarter w v }
+// Twenty steps, which have one function and one constant.
+#[derive(Clone, Copy)]
+enum Quarter {
+    First,
+    Second,
+    Third,
+    Fourth,
+}
+
+// One step of a quarter: 4.1.1 and 4.2.1 have its function and its constant.
+fn step_of(quarter: Quarter, v: FiveWords, w: u32) -> FiveWords
+    ensures { result ≡ code.step_of (number quarter) w v }
 {
     match quarter {
-        0 => step(v, ch(v.b, v.c, v.d), 0x5a827999, w),
-        1 => step(v, parity(v.b, v.c, v.d), 0x6ed9eba1, w),
-        2 => step(v, maj(v.b, v.c, v.d), 0x8f1bbcdc, w),
-        _ => step(v, parity(v.b, v.c, v.d), 0xca62c1d6, w),
+        Quarter::First => step(v, choice(v.b, v.c, v.d), 0x5a827999, w),
+        Quarter::Second => step(v, parity(v.b, v.c, v.d), 0x6ed9eba1, w),
+        Quarter::Third => step(v, maj(v.b, v.c, v.d), 0x8f1bbcdc, w),
+        Quarter::Fourth => step(v, parity(v.b, v.c, v.d), 0xca62c1d6, w),
     }
 }
 
-// Four steps of a quarter.
-fn four_of(quarter: u32, v0: FiveWords, w: Four) -> FiveWords
-    ensures { result ≡ code.four_of quarter w v0 }
+// Four steps of a quarter. A caller says it by its name, and the compiler then leaves no choice to be made at run time.
+fn four_of(quarter: Quarter, v0: FiveWords, w: Four) -> FiveWords
+    ensures { result ≡ code.four_of (number quarter) w v0 }
 {
     let v1 = step_of(quarter, v0, w.0);
     let v2 = step_of(quarter, v1, w.1);
@@ -46,14 +62,44 @@ fn four_of(quarter: u32, v0: FiveWords, w: Four) -> FiveWords
     step_of(quarter, v3, w.3)
 }
 
-// Sixteen steps, from step t on. A caller says t by a literal, and the compiler then leaves no choice to be made at
-// run time.
-pub fn sixteen_of(t: u32, v0: FiveWords, w: [u32; 16]) -> FiveWords
-    requires { t ≤ 64 }
-    ensures { result ≡ code.sixteen_of t w v0 }
-{
-    let v1 = four_of(t / 20, v0, part(w, 0));
-    let v2 = four_of((t + 4) / 20, v1, part(w, 4));
-    let v3 = four_of((t + 8) / 20, v2, part(w, 8));
-    four_of((t + 12) / 20, v3, part(w, 12))
+pub struct Sha1;
+
+impl HashFunction for Sha1 {
+    type Words = FiveWords;
+
+    type Lent = ();
+
+    ghost steps = { spec.eighty };
+
+    fn lent() {}
+
+    // The eighty steps, four at a time, and the sum.
+    #[inline(never)]
+    fn compress(w: &[u32; 16], h: FiveWords, _: &()) -> FiveWords {
+        let w = *w;
+        let v = four_of(Quarter::First, h, part(w, 0));
+        let v = four_of(Quarter::First, v, part(w, 4));
+        let v = four_of(Quarter::First, v, part(w, 8));
+        let v = four_of(Quarter::First, v, part(w, 12));
+        let w = following(w);
+        let v = four_of(Quarter::First, v, part(w, 0));
+        let v = four_of(Quarter::Second, v, part(w, 4));
+        let v = four_of(Quarter::Second, v, part(w, 8));
+        let v = four_of(Quarter::Second, v, part(w, 12));
+        let w = following(w);
+        let v = four_of(Quarter::Second, v, part(w, 0));
+        let v = four_of(Quarter::Second, v, part(w, 4));
+        let v = four_of(Quarter::Third, v, part(w, 8));
+        let v = four_of(Quarter::Third, v, part(w, 12));
+        let w = following(w);
+        let v = four_of(Quarter::Third, v, part(w, 0));
+        let v = four_of(Quarter::Third, v, part(w, 4));
+        let v = four_of(Quarter::Third, v, part(w, 8));
+        let v = four_of(Quarter::Fourth, v, part(w, 12));
+        let w = following(w);
+        let v = four_of(Quarter::Fourth, v, part(w, 0));
+        let v = four_of(Quarter::Fourth, v, part(w, 4));
+        let v = four_of(Quarter::Fourth, v, part(w, 8));
+        four_of(Quarter::Fourth, v, part(w, 12)).summed(h)
+    }
 }

@@ -1,6 +1,8 @@
 // SHA-1 (FIPS 180-4): the hash value after a message, and the digest.
 #![tactic(auto)]
 
+pub use crate::eighty_steps::Sha1;
+
 // The message schedule, sixteen words at a time.
 mod schedule;
 // The eighty steps on the working variables.

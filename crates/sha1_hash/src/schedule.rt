@@ -9,11 +9,9 @@ pub fn following(m: [u32; 16]) -> [u32; 16]
     ensures { result ≡ code.following m }
 {
     let mut w = m;
-    let mut t = 0;
-    while t < 16 {
+    for t in 0..16 {
         let x = w[(t + 13) % 16] ^ w[(t + 8) % 16] ^ w[(t + 2) % 16] ^ w[t];
         w[t] = rotated(x, 1);
-        t += 1;
     }
     w
 }

@@ -1,2 +1,3 @@
 -- Lemmas of this crate's proofs.
 mod Six
+mod PairSum

@@ -1,6 +1,5 @@
 -- 01, Six words and hex: a 64-bit number as six places of the dictionary, and back.
-use Rattle.std.specs.Prelude.{ℕ, zero, suc, ◌+◌, ◌*◌, ◌/◌, ◌%◌, ◌^◌, Bool, true, cond, ◌&&◌, List, [], ◌∷◌, eqb, ltb}
-use Rattle.sixwords.specs.declared.Number.{Number}
+use Rattle.std.specs.Prelude.{ℕ, zero, suc, ◌+◌, ◌*◌, ◌/◌, ◌%◌, ◌^◌, Bool, true, cond, ◌&&◌, List, [], ◌∷◌, eqb, ltb, Option, Some, None}
 
 -- the last n pairs of p's bits, added
 unfoldable pub pairs : ℕ → ℕ → ℕ
@@ -41,7 +40,7 @@ all_places (a ∷ s) = ltb a 2048 && all_places s
 
 -- The number in front of 66 bits, if its pair sum stands after it. A place from 2,048 on, which no word has, is answered
 -- as a wrong sum.
-unfoldable pub number_of : List ℕ → Number
+unfoldable pub number_of : List ℕ → Option ℕ
 number_of s =
     let w = joined 0 s in
-    cond (all_places s && eqb (pair_sum (w / 4) % 4) (w % 4)) (Number.Is (w / 4)) Number.SumWrong
+    cond (all_places s && eqb (pair_sum (w / 4) % 4) (w % 4)) (Some (w / 4)) None

@@ -1,70 +1,63 @@
 // A password as six words: a 64-bit number as six places of the dictionary, and back; the words written. Document 01, 'Six words and hex'.
 #![tactic(auto)]
 
-ghost use Rattle.std.specs.Prelude.{◌≡◌};
-ghost use Rattle.sixwords.specs.Places.{pair_sum, places_of, number_of};
+ghost use Rattle.std.specs.Prelude.{◌≡◌, ◌<◌, ◌^◌, true, ltb};
+ghost use Rattle.std.specs.List.{list_all};
+ghost use Rattle.sixwords.specs.Places.{pair_sum, places_of, all_places, joined, number_of};
 
 // The six words written.
 pub mod spelling;
 
-// The number that six places stand for, or that the pair sum after it is wrong.
-#[derive(Clone, Copy)]
-pub enum Number {
-    Is(u64),
-    SumWrong,
-}
-
-// The six places of a number, most significant first.
+// The six places of a number, most significant first: its 66 bits cut. (By an array's `map` over the six amounts, that each is below 128 wasn't proved.)
 fn places_of(p: u64) -> [usize; 6]
     ensures { result ≡ places_of p }
 {
-    let sum = pair_sum(p) % 4;
-    [
-        (p >> 53) as usize,
-        ((p >> 42) % 2048) as usize,
-        ((p >> 31) % 2048) as usize,
-        ((p >> 20) % 2048) as usize,
-        ((p >> 9) % 2048) as usize,
-        (p % 512 * 4 + sum) as usize,
-    ]
+    let whole = u128::from(p) * 4 + u128::from(pair_sum(p) % 4);
+    let cut = |low: u32| ((whole >> low) % 2048) as usize;
+    [cut(55), cut(44), cut(33), cut(22), cut(11), cut(0)]
 }
 
-// The number of six places. A place from 2,048 on is answered as a wrong sum.
-pub fn number_of(places: [usize; 6]) -> Number
+// Whether each of six is one of 0 to 2,047.
+fn all_places(places: &[usize; 6]) -> bool
+    ensures { result ≡ list_all (λ place. ltb place 2048) places.now }
+{
+    places.iter().all(|place| *place < 2048)
+}
+
+// The 66 bits of six places.
+fn joined(places: &[usize; 6]) -> u128
+    requires { all_places places.now ≡ true }
+    ensures { (result ≡ joined 0 places.now) × (result < 2 ^ 66) }
+{
+    let mut whole = 0;
+    for place in places {
+        whole = whole * 2048 + *place as u128;
+    }
+    whole
+}
+
+// The number of six places; none where the pair sum after it is wrong, or where a place is 2,048 or more.
+pub fn number_of(places: [usize; 6]) -> Option<u64>
     ensures { result ≡ number_of places }
 {
-    let mut first: u64 = 0;
-    let mut k = 0;
-    while k < 5 {
-        let place = places[k];
-        if 2047 < place {
-            return Number::SumWrong;
-        }
-        first = first * 2048 + place as u64;
-        k += 1;
+    if !all_places(&places) {
+        return None;
     }
-    let last = places[5];
-    if 2047 < last {
-        return Number::SumWrong;
-    }
-    let p = first * 512 + (last / 4) as u64;
-    if pair_sum(p) % 4 == (last % 4) as u64 {
-        Number::Is(p)
+    let whole = joined(&places);
+    let p = (whole / 4) as u64;
+    if u128::from(pair_sum(p) % 4) == whole % 4 {
+        Some(p)
     } else {
-        Number::SumWrong
+        None
     }
 }
 
-// The 32 pairs of bits of a number, added. It ends where only zeros are left: a loop of 32 the compiler wrote out in
-// full.
-fn pair_sum(p: u64) -> u64
+// The upper bit of each pair.
+const UPPER: u64 = 0xaaaa_aaaa_aaaa_aaaa;
+
+// The 32 pairs of bits of a number, added: each is worth its ones, and its upper one once more.
+fn pair_sum(p: u64) -> u32
     ensures { result ≡ pair_sum p }
 {
-    let mut rest = p;
-    let mut sum = 0;
-    while 0 < rest {
-        sum += rest % 4;
-        rest = rest / 4;
-    }
-    sum
+    p.count_ones() + (p & UPPER).count_ones()
 }

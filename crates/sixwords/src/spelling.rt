@@ -20,7 +20,7 @@ pub fn write_words(password: u64, buf: &mut [u8]) -> Written
 {
     let six = packed::words_of(password);
     if buf.len() < packed::length_of(six) {
-        return Written::Refused(Refusal::BufferShort);
+        return Err(Refusal::BufferShort);
     }
-    Written::Wrote(packed::put_words(buf, six))
+    Ok(packed::put_words(buf, six))
 }

@@ -1,4 +1,5 @@
 -- What a table means, the checks and the written steps that the promises of the calls cite, and what follows of them at once.
+pub mod Answers
 pub mod Table
 pub mod TableChecks
 pub mod Steps

@@ -1,8 +1,6 @@
 -- Laws of the written steps: what a call's checks say where they found nothing wrong, and each call's two ways, a refusal or what it does.
-use Rattle.std.specs.Prelude.{ℕ, ◌-◌, ◌≡◌, true, not, ◌&&◌, List, [], ◌∷◌, eqb, leb, ltb}
+use Rattle.std.specs.Prelude.{ℕ, ◌-◌, ◌≡◌, true, not, ◌&&◌, List, [], ◌∷◌, eqb, leb, ltb, Ok, Err}
 use Rattle.refusal.specs.declared.Refusal.{Refusal}
-use Rattle.refusal.specs.declared.Checked.{Checked}
-use Rattle.refusal.specs.declared.Written.{Written}
 use Rattle.refusal.specs.Laws.{must_good, each_good}
 use Rattle.password.specs.Algorithm.{numbered, algorithm_checked}
 use Rattle.password.specs.PhraseAndSeed.{seed_checked}
@@ -30,13 +28,13 @@ use Rattle.table.specs.Steps.{enrol_checked, join_checked, leave_checked, turn_c
 pub record EnrolPassed (id number count : ℕ) (seed : List ℕ) (s : State) : Type 0 where
   pub given : not (eqb id 0) ≡ true
   pub within : (leb 2 count && leb count 9999) ≡ true
-  pub algorithm : algorithm_checked (numbered number) ≡ Checked.Good
-  pub good : seed_checked seed ≡ Checked.Good
+  pub algorithm : algorithm_checked (numbered number) ≡ Ok tt
+  pub good : seed_checked seed ≡ Ok tt
   pub new : not (is_there id s) ≡ true
   pub room : holds 0 s.rooms ≡ true
 
 module _ (id number count : ℕ) (seed : List ℕ) (s : State) where
-  pub enrol_passed : enrol_checked id number count seed s ≡ Checked.Good → EnrolPassed id number count seed s
+  pub enrol_passed : enrol_checked id number count seed s ≡ Ok tt → EnrolPassed id number count seed s
   unfolding enrol_checked
   enrol_passed e =
       let found = each_good (id_given id ∷ count_within count ∷ algorithm_checked (numbered number) ∷ seed_checked seed ∷ id_new id s ∷ room_left s ∷ []) e in
@@ -49,12 +47,12 @@ module _ (id number count : ℕ) (seed : List ℕ) (s : State) where
         room = must_good _ _ found.1.1.1.1.1.0;
       }
 
-  pub enrol-refused : (password : List ℕ) (why : Refusal) → enrol_checked id number count seed s ≡ Checked.Refused why
+  pub enrol-refused : (password : List ℕ) (why : Refusal) → enrol_checked id number count seed s ≡ Err why
       → steps.enrol id number count seed password s ≡ steps.refused s why
   unfolding steps.enrol
   enrol-refused password why e = rw e
 
-  pub enrol-done : (password : List ℕ) → enrol_checked id number count seed s ≡ Checked.Good
+  pub enrol-done : (password : List ℕ) → enrol_checked id number count seed s ≡ Ok tt
       → steps.enrol id number count seed password s ≡ steps.done (with_account (place_of 0 s.rooms) (new_room id number count seed password) s)
   unfolding steps.enrol
   enrol-done password e = rw e
@@ -77,7 +75,7 @@ pub record JoinPassed (port id : ℕ) (s : State) : Type 0 where
   pub unused : ltb 1 (account_of id s).count ≡ true
 
 module _ (port id : ℕ) (s : State) where
-  pub join_passed : join_checked port id s ≡ Checked.Good → JoinPassed port id s
+  pub join_passed : join_checked port id s ≡ Ok tt → JoinPassed port id s
   unfolding join_checked
   join_passed e =
       let found = each_good (port_known port ∷ account_there id s ∷ not_in_line port s ∷ port_open port s ∷ not_used_up (account_of id s) ∷ []) e in
@@ -89,22 +87,22 @@ module _ (port id : ℕ) (s : State) where
         unused = must_good _ _ found.1.1.1.1.0;
       }
 
-  pub join-refused : (why : Refusal) → join_checked port id s ≡ Checked.Refused why → steps.join port id s ≡ steps.refused s why
+  pub join-refused : (why : Refusal) → join_checked port id s ≡ Err why → steps.join port id s ≡ steps.refused s why
   unfolding steps.join
   join-refused why e = rw e
 
-  pub join-done : join_checked port id s ≡ Checked.Good → steps.join port id s ≡ steps.done (steps.joins port id s)
+  pub join-done : join_checked port id s ≡ Ok tt → steps.join port id s ≡ steps.done (steps.joins port id s)
   unfolding steps.join
   join-done e = rw e
 
 -- ---- Leave
 
 module _ (port : ℕ) (s : State) where
-  pub leave-refused : (why : Refusal) → leave_checked port s ≡ Checked.Refused why → steps.leave port s ≡ steps.refused s why
+  pub leave-refused : (why : Refusal) → leave_checked port s ≡ Err why → steps.leave port s ≡ steps.refused s why
   unfolding steps.leave
   leave-refused why e = rw e
 
-  pub leave-done : leave_checked port s ≡ Checked.Good → steps.leave port s ≡ steps.done (steps.leaves port s)
+  pub leave-done : leave_checked port s ≡ Ok tt → steps.leave port s ≡ steps.done (steps.leaves port s)
   unfolding steps.leave
   leave-done e = rw e
 
@@ -118,14 +116,14 @@ pub record TurnPassed (port : ℕ) (s : State) : Type 0 where
   pub unused : ltb 1 (own_account port s).count ≡ true
 
 pub record RenewPassed (port number count : ℕ) (seed : List ℕ) (s : State) : Type 0 where
-  pub turn : turn_checked port s ≡ Checked.Good
+  pub turn : turn_checked port s ≡ Ok tt
   pub within : (leb 2 count && leb count 9999) ≡ true
-  pub algorithm : algorithm_checked (numbered number) ≡ Checked.Good
-  pub good : seed_checked seed ≡ Checked.Good
-  pub new : seed_other seed (own_account port s) ≡ Checked.Good
+  pub algorithm : algorithm_checked (numbered number) ≡ Ok tt
+  pub good : seed_checked seed ≡ Ok tt
+  pub new : seed_other seed (own_account port s) ≡ Ok tt
 
 module _ (port : ℕ) (s : State) where
-  pub turn_passed : turn_checked port s ≡ Checked.Good → TurnPassed port s
+  pub turn_passed : turn_checked port s ≡ Ok tt → TurnPassed port s
   unfolding turn_checked
   turn_passed e =
       let found = each_good (port_known port ∷ in_line port s ∷ in_front port s ∷ account_held (own_account port s) ∷ not_used_up (own_account port s) ∷ [])
@@ -138,18 +136,18 @@ module _ (port : ℕ) (s : State) where
         unused = must_good _ _ found.1.1.1.1.0;
       }
 
-  pub challenge_refused : (room : ℕ) (why : Refusal) → turn_checked port s ≡ Checked.Refused why → steps.challenge port room s ≡ Written.Refused why
+  pub challenge_refused : (room : ℕ) (why : Refusal) → turn_checked port s ≡ Err why → steps.challenge port room s ≡ Err why
   unfolding steps.challenge
   challenge_refused room why e = rw e
 
-  pub challenge_done : (room : ℕ) → turn_checked port s ≡ Checked.Good
+  pub challenge_done : (room : ℕ) → turn_checked port s ≡ Ok tt
       → steps.challenge port room s
       ≡ challenge_written_by true (own_account port s).algorithm (own_account port s).seed ((own_account port s).count - 1) room
   unfolding steps.challenge
   challenge_done room e = rw e
 
 module _ (port number count : ℕ) (seed : List ℕ) (s : State) where
-  pub renew_passed : renew_checked port number count seed s ≡ Checked.Good → RenewPassed port number count seed s
+  pub renew_passed : renew_checked port number count seed s ≡ Ok tt → RenewPassed port number count seed s
   unfolding renew_checked
   renew_passed e =
       let found = each_good (turn_checked port s ∷ count_within count ∷ algorithm_checked (numbered number) ∷ seed_checked seed

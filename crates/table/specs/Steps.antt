@@ -1,9 +1,8 @@
 -- The written steps, one for each call: document 01, 'Table, ports and turns', in its order and words; document 02, R-1, R-4, R-5, R-6 and R-7.
-use Rattle.std.specs.Prelude.{ℕ, ◌-◌, true, cond, List, [], ◌∷◌, map, eqb, ltb, length}
+use Rattle.std.specs.Prelude.{ℕ, ◌-◌, true, cond, List, [], ◌∷◌, map, eqb, ltb, length, Ok, Err}
 use Rattle.refusal.specs.declared.Refusal.{Refusal}
 use Rattle.refusal.specs.declared.Listing.{Listing}
-use Rattle.refusal.specs.declared.Checked.{Checked}
-use Rattle.refusal.specs.declared.Written.{Written}
+use Rattle.refusal.specs.Answers.{Checked, Written}
 use Rattle.refusal.specs.Numbers.{listing_of, unrefused}
 use Rattle.refusal.specs.Checks.{unless, in_order}
 use Rattle.password.specs.PhraseAndSeed.{seed_checked}
@@ -12,7 +11,7 @@ use Rattle.password.specs.Password.{hash, bytes_of}
 use Rattle.challenge.specs.Challenges.{challenge_text, challenge_written_by}
 use Rattle.line.specs.Line.{joined, left, ticked}
 use Rattle.port.specs.Port.{wrongly, wrong_answer, rightly, cooled}
-use Rattle.table.specs.declared.Replied.{Replied}
+use Rattle.table.specs.Answers.{Replied}
 use Rattle.table.specs.declared.Settled.{Settled}
 use Rattle.table.specs.declared.Answered.{Answered}
 use Rattle.accounts.specs.Rooms.{Room}
@@ -62,18 +61,18 @@ answered r older = record { answer = r.answer; state = view r.table older }
 
 -- The number and value of what an offer is answered: the new count.
 abbrev pub replied_numbers : Replied → Listing × ℕ
-replied_numbers (Replied.Accepted count) = (unrefused, count)
-replied_numbers (Replied.Refused why) = (listing_of why, 0)
+replied_numbers (Ok count) = (unrefused, count)
+replied_numbers (Err why) = (listing_of why, 0)
 
 -- "A refusal .. changes no buffer and no table."
 abbrev pub refused : State → Refusal → After Checked
-refused s why = record { answer = Checked.Refused why; state = s }
+refused s why = record { answer = Err why; state = s }
 
 abbrev pub reply_refused : State → Refusal → After Replied
-reply_refused s why = record { answer = Replied.Refused why; state = s }
+reply_refused s why = record { answer = Err why; state = s }
 
 abbrev pub done : State → After Checked
-done s = record { answer = Checked.Good; state = s }
+done s = record { answer = Ok tt; state = s }
 
 -- Enrol: 50, 51, then R-1's 21 "after 51", 23, 24, 52, 53. The first free room is taken. The algorithm is given by its number. The
 -- account remembers the one seed.
@@ -127,7 +126,7 @@ challenge_for port s = challenge_text true (own_account port s).algorithm (own_a
 
 unfoldable pub challenge : ℕ → ℕ → State → Written
 challenge port room s =
-    unless Written.Refused (turn_checked port s)
+    unless Err (turn_checked port s)
     (challenge_written_by true (own_account port s).algorithm (own_account port s).seed ((own_account port s).count - 1) room)
 
 -- "Hash the password once", by the account's present algorithm. "If it equals the stored one" the account becomes `next`, the
@@ -135,13 +134,13 @@ challenge port room s =
 -- grows by 1, answer 61 [or] 62".
 abbrev pub accepted : ℕ → Room → State → After Replied
 accepted port next s = record {
-  answer = Replied.Accepted next.count;
+  answer = Ok next.count;
   state = leaves port (with_port port (rightly (port_of port s)) (with_account (stands_at port s.rooms) next s));
 }
 
 abbrev pub rejected : ℕ → State → After Replied
 rejected port s = record {
-  answer = Replied.Refused (wrong_answer (port_of port s));
+  answer = Err (wrong_answer (port_of port s));
   state = leaves port (with_port port (wrongly (port_of port s)) s);
 }
 

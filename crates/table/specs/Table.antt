@@ -1,6 +1,5 @@
 -- What a table is made of: document 01, 'Table, ports and turns', and document 02, R-4 and R-5.
-use Rattle.std.specs.Prelude.{ℕ, suc, Bool, cond, not, ◌&&◌, List, [], ◌∷◌, ◌++◌, map, eqb, ltb, length, get_or, set, replicate}
-use Rattle.line.specs.declared.Front.{Front}
+use Rattle.std.specs.Prelude.{ℕ, suc, Bool, cond, not, ◌&&◌, List, [], ◌∷◌, ◌++◌, map, eqb, ltb, length, get_or, set, replicate, Option, Some, None}
 use Rattle.line.specs.Line.{Waiting, waiting, empty, stands_in, front_of}
 use Rattle.port.specs.declared.Port.{Port}
 use Rattle.accounts.specs.declared.Account.{Account}
@@ -93,9 +92,9 @@ abbrev pub own_account : ℕ → State → Room
 own_account port s = (own_room port s).account
 
 -- The port has the turn: it is in front of its own line.
-abbrev pub is_front : ℕ → Front → Bool
-is_front port Front.Nobody = Bool.false
-is_front port (Front.At other) = eqb other port
+abbrev pub is_front : ℕ → Option ℕ → Bool
+is_front port None = Bool.false
+is_front port (Some other) = eqb other port
 
 abbrev pub has_turn : ℕ → State → Bool
 has_turn port s = is_front port (front_of (own_room port s).line)

@@ -1,7 +1,7 @@
 -- The refusals of the table, 50 to 63, each as a check: document 01, 'Refusal numbers'. 51 and what 63 compares are in `accounts`.
 use Rattle.std.specs.Prelude.{ℕ, not, eqb, leb, ltb}
 use Rattle.refusal.specs.declared.Refusal.{Refusal}
-use Rattle.refusal.specs.declared.Checked.{Checked}
+use Rattle.refusal.specs.Answers.{Checked}
 use Rattle.refusal.specs.Checks.{must}
 use Rattle.accounts.specs.Rooms.{Room}
 use Rattle.table.specs.Table.{State, is_there, holds, port_of, waits, has_turn}

@@ -6,31 +6,22 @@ ghost use Rattle.table.specs.Table.{view, place_of, holds, room_at, with_account
 use crate::Table;
 use accounts::{Account, FREE};
 
-// The first room with that id, with 0 the first free one; 32 where none has it.
+// The first room with that id, with 0 the first free one; 32 where none has it, as the definition has it, which the steps cite.
 pub fn place_of(table: Table, id: u16) -> usize
     ensures { (older : List ℕ) → (result ≡ place_of id (view table older).rooms) × (ltb result 32 ≡ holds id (view table older).rooms) }
 {
-    let rooms = table.rooms;
-    let mut i = 0;
-    while i < 32 {
-        let room = rooms[i];
-        if room.id == id {
-            return i;
-        }
-        i += 1;
-    }
-    i
+    table
+        .rooms
+        .iter()
+        .position(|room| room.id == id)
+        .unwrap_or(32)
 }
 
-// The account in that room; a free room past the last.
+// The account in that room; a free room past the last. A test and a place, here and in `put`: with `get_mut` the prover loses what is written.
 pub fn account_at(table: Table, place: usize) -> Account
     ensures { (older : List ℕ) → room_of result (part_of older place) ≡ (room_at place (view table older)).account }
 {
-    if 31 < place {
-        return FREE;
-    }
-    let rooms = table.rooms;
-    rooms[place]
+    if place < 32 { table.rooms[place] } else { FREE }
 }
 
 // The table with that account in that room, whose line stays; as it is past the last.

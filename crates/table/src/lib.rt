@@ -22,11 +22,7 @@ pub struct Table {
 }
 
 // The new count, or why there is none.
-#[derive(Clone, Copy)]
-pub enum Replied {
-    Accepted(u16),
-    Refused(Refusal),
-}
+pub type Replied = Result<u16, Refusal>;
 
 // A table with the answer beside it. The table stands first, so that no gap of unused bytes lies before it: the compiler
 // then copies it once less.
@@ -48,6 +44,6 @@ pub fn fresh() -> Table
     Table {
         rooms: [FREE; 32],
         ports: [Port { wrong: 0, shut: 0 }; 4],
-        lines: line::fresh(),
+        lines: Lines::fresh(),
     }
 }

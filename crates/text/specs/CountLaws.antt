@@ -1,28 +1,27 @@
 -- Laws of counts: what a count that is read says, and how long a written one is.
-use Rattle.std.specs.Prelude.{ℕ, ◌+◌, ◌^◌, ◌≤◌, ◌≡◌, refl, Bool, true, false, cond, not, ◌&&◌, List, [], ◌∷◌, ◌++◌, leb, ltb, length}
+use Rattle.std.specs.Prelude.{ℕ, ◌+◌, ◌^◌, ◌≤◌, ◌≡◌, refl, Bool, true, false, cond, not, ◌&&◌, List, [], ◌∷◌, ◌++◌, leb, ltb, length, Some, None}
 use Rattle.std.proofs.Common.{ap₂, arith, length-append, leb-true, lt-ltb}
 use Rattle.std.proofs.Math.Nat.{pow-le-pow_right}
 use Rattle.text.specs.Kinds.{is_digit}
 use Rattle.text.specs.Digits.{digit_value, number_of}
 use Rattle.text.specs.DigitLaws.{value_digit, number_lt, length_digits}
 use Rattle.text.specs.Tests.{every, both, either}
-use Rattle.text.specs.declared.counts.Counted.{Counted}
 use Rattle.text.specs.Counts.{leading_zero, is_count, counted_of, width_of, decimal_of}
 
 -- ---- what is read
 
 -- a count that was read is the token's
-pub is_read : (t : List ℕ) (n : ℕ) → counted_of t ≡ Counted.Is n → (is_count t ≡ true) × (number_of 10 t ≡ n)
+pub is_read : (t : List ℕ) (n : ℕ) → counted_of t ≡ Some n → (is_count t ≡ true) × (number_of 10 t ≡ n)
 is_read t n = by (is_count t) refl
   where
-    by : (b : Bool) → is_count t ≡ b → cond b (Counted.Is (number_of 10 t)) Counted.Unread ≡ Counted.Is n → (is_count t ≡ true) × (number_of 10 t ≡ n)
+    by : (b : Bool) → is_count t ≡ b → cond b (Some (number_of 10 t)) None ≡ Some n → (is_count t ≡ true) × (number_of 10 t ≡ n)
     by true f e = (f, cc)
     by false f e = let z : ◌≡◌ {A = ℕ} 0 1 = cc in absurd (omega arith)
 
-pub is_unread : (t : List ℕ) → counted_of t ≡ Counted.Unread → is_count t ≡ false
+pub is_unread : (t : List ℕ) → counted_of t ≡ None → is_count t ≡ false
 is_unread t = by (is_count t) refl
   where
-    by : (b : Bool) → is_count t ≡ b → cond b (Counted.Is (number_of 10 t)) Counted.Unread ≡ Counted.Unread → is_count t ≡ false
+    by : (b : Bool) → is_count t ≡ b → cond b (Some (number_of 10 t)) None ≡ None → is_count t ≡ false
     by true f e = let z : ◌≡◌ {A = ℕ} 0 1 = cc in absurd (omega arith)
     by false f e = f
 

@@ -1,9 +1,8 @@
 -- 01, Challenges: a count as a text, read and written.
-use Rattle.std.specs.Prelude.{ℕ, Bool, cond, not, ◌&&◌, List, leb, ltb, eqb, length, get_or}
+use Rattle.std.specs.Prelude.{ℕ, Bool, cond, not, ◌&&◌, List, leb, ltb, eqb, length, get_or, Option, Some, None}
 use Rattle.text.specs.Kinds.{is_digit}
 use Rattle.text.specs.Tests.{every}
 use Rattle.text.specs.Digits.{digits_of, number_of}
-use Rattle.text.specs.declared.counts.Counted.{Counted}
 
 -- "without a leading zero (a lone `0` is good)": more than one byte, the first a `0`
 abbrev pub leading_zero : List ℕ → Bool
@@ -22,5 +21,5 @@ abbrev pub decimal_of : ℕ → List ℕ
 decimal_of n = digits_of 10 (width_of n) n
 
 -- the count that a token is, if it is one
-abbrev pub counted_of : List ℕ → Counted
-counted_of t = cond (is_count t) (Counted.Is (number_of 10 t)) Counted.Unread
+abbrev pub counted_of : List ℕ → Option ℕ
+counted_of t = cond (is_count t) (Some (number_of 10 t)) None

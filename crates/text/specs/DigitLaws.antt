@@ -1,8 +1,10 @@
 -- Laws of digits: each stands for what it is written for, and so do several.
-use Rattle.std.specs.Prelude.{ℕ, zero, suc, ◌+◌, ◌-◌, ◌*◌, ◌/◌, ◌%◌, ◌^◌, ◌≤◌, ◌<◌, ◌≡◌, refl, Bool, true, false, cond, ◌&&◌, ◌||◌, List, [], ◌∷◌, ◌++◌, map}
+use Rattle.std.specs.Prelude.{ℕ, zero, suc, ◌+◌, ◌-◌, ◌*◌, ◌/◌, ◌%◌, ◌^◌, ◌≤◌, ◌<◌, ◌≡◌, refl}
+use Rattle.std.specs.Prelude.{Bool, true, false, cond, None, Some, ◌&&◌, ◌||◌, List, [], ◌∷◌, ◌++◌, map}
 use Rattle.std.specs.Prelude.{length, take, drop, set, leb, ltb}
 use Rattle.std.proofs.Common.{sym, ◌∙◌, ap, ap₂, append-nil, arith, add-zero, add-suc, suc-add, mul-one, mul_assoc, mod-lt, div-lt_iff_lt-mul, div-add-mod'}
 use Rattle.std.proofs.Common.{pow-suc, add-one, length-append, drop_at, length-take-le, lt-ltb, le-ltb, le-leb, leb-true, leb-false, ltb-true, ltb-false}
+use Rattle.std.specs.Option.{unwrap_or}
 use Rattle.std.proofs.Math.Nat.{pow-succ', pow-zero}
 use Rattle.std.proofs.Math.Seq.{append_snoc}
 use Rattle.std.proofs.lemmas.List.{set_split}
@@ -11,7 +13,7 @@ use Rattle.std.proofs.lemmas.Bool.{lt-leb}
 use Rattle.text.specs.Tests.{every, every_append, every_weaker, either, cases, both}
 use Rattle.text.specs.Kinds.{is_digit, is_upper, is_solid, lower_of}
 use Rattle.text.specs.KindLaws.{past_space_solid, capital_lower}
-use Rattle.text.specs.Digits.{digit_of, digits_of, is_hex, digit_value, number_after, number_of}
+use Rattle.text.specs.Digits.{digit_of, digits_of, is_hex, digit_value, digit_found, number_after, number_of}
 
 pub value_digit : (b : ℕ) → is_digit b ≡ true → digit_value b ≡ b - 48
 value_digit b e = rw e
@@ -105,6 +107,27 @@ hex_value b = cases (is_digit b) digit (λ e. cases (leb 97 (lower_of b) && leb 
 
     none : is_digit b ≡ false → (leb 97 (lower_of b) && leb (lower_of b) 102) ≡ false → is_hex b ≡ ltb (digit_value b) 16
     none e f = ap₂ (λ (t u : Bool). t || u) e f ∙ sym (ap (λ (v : ℕ). ltb v 16) (value_none b e f))
+
+-- what is read of a byte: a number below 16, where it is a hex digit
+pub found_some : (b d : ℕ) → digit_found b ≡ Some d → (digit_value b ≡ d) × (d < 16)
+found_some b d = by (is_hex b) refl
+  where
+    by : (t : Bool) → is_hex b ≡ t → cond t (Some (digit_value b)) None ≡ Some d → (digit_value b ≡ d) × (d < 16)
+    by true e f =
+        let small = ltb-true (digit_value b) 16 (sym (hex_value b) ∙ e) in
+        let same : digit_value b ≡ d = cc in
+        (same, omega arith)
+    by false e f = let z : ◌≡◌ {A = ℕ} 0 1 = cc in absurd (omega arith)
+
+pub found_none : (b : ℕ) → digit_found b ≡ None → is_hex b ≡ false
+found_none b = by (is_hex b) refl
+  where
+    by : (t : Bool) → is_hex b ≡ t → cond t (Some (digit_value b)) None ≡ None → is_hex b ≡ false
+    by true e f = let z : ◌≡◌ {A = ℕ} 0 1 = cc in absurd (omega arith)
+    by false e f = e
+
+pub found_or : (b : ℕ) → unwrap_or (digit_found b) 16 ≡ digit_value b
+found_or b = cases (is_digit b) (λ e. rw e) (λ e. cases (leb 97 (lower_of b) && leb (lower_of b) 102) (λ f. rw (e, f)) (λ f. rw (e, f)))
 
 pub number_append : (base n : ℕ) (s t : List ℕ) → number_after base n (s ++ t) ≡ number_after base (number_after base n s) t
 unfolding number_after

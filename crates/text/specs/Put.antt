@@ -1,7 +1,7 @@
 -- A text at the front of a lent buffer, and what a writer answers and leaves.
-use Rattle.std.specs.Prelude.{ℕ, ◌≡◌, cond, List, ◌++◌, leb, length, drop}
+use Rattle.std.specs.Prelude.{ℕ, ◌≡◌, cond, List, ◌++◌, leb, length, drop, Ok, Err}
 use Rattle.refusal.specs.declared.Refusal.{Refusal}
-use Rattle.refusal.specs.declared.Written.{Written}
+use Rattle.refusal.specs.Answers.{Written}
 
 -- the buffer b with the text t at its front, and what lies past t as it was
 abbrev pub front : List ℕ → List ℕ → List ℕ
@@ -13,12 +13,12 @@ Put t b b' n = (n ≡ length t) × (b' ≡ front t b)
 
 -- 01, Refusal numbers, 40: "buffer shorter than the text to be written"
 abbrev pub written_of : ℕ → List ℕ → Written
-written_of room t = cond (leb (length t) room) (Written.Wrote (length t)) (Written.Refused Refusal.BufferShort)
+written_of room t = cond (leb (length t) room) (Ok (length t)) (Err Refusal.BufferShort)
 
 -- "A refusal changes no buffer"; "A writer touches only the bytes it reports"
 abbrev pub leaves : Written → List ℕ → List ℕ → List ℕ
-leaves (Written.Wrote n) t b = front t b
-leaves (Written.Refused why) t b = b
+leaves (Ok n) t b = front t b
+leaves (Err why) t b = b
 
 -- the promise of a writer of t into the buffer b: it answers r and leaves b'
 abbrev pub Writes : List ℕ → List ℕ → List ℕ → Written → Type 0

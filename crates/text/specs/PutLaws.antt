@@ -1,5 +1,6 @@
 -- Laws of a text at the front of a buffer: two texts one after the other, and a text that grows byte by byte.
-use Rattle.std.specs.Prelude.{ℕ, suc, ◌+◌, ◌-◌, ◌≤◌, ◌<◌, ◌≡◌, refl, List, [], ◌∷◌, ◌++◌, length, get_or, take, drop, set, Bool, true, false, cond, leb}
+use Rattle.std.specs.Prelude.{ℕ, suc, ◌+◌, ◌-◌, ◌≤◌, ◌<◌, ◌≡◌, refl, List, [], ◌∷◌, ◌++◌}
+use Rattle.std.specs.Prelude.{length, get_or, take, drop, set, Bool, true, false, cond, leb, Ok, Err}
 use Rattle.std.proofs.Common.{sym, ◌∙◌, ap, ap₂, append_assoc, append-nil, arith, add-one, length-append, length-drop, drop_of_length-le, take_all, take_at}
 use Rattle.std.proofs.Common.{drop_at, drop-drop, drop-cons, take-suc, length-take-le, le-leb}
 use Rattle.std.proofs.lemmas.List.{set_at}
@@ -7,8 +8,12 @@ use Rattle.std.proofs.Math.Seq.{append_snoc}
 use borrow.Rule.Slice.PartMut.{mid_of, put_mid}
 use Rattle.std.proofs.lemmas.Bool.{lt-leb}
 use Rattle.refusal.specs.declared.Refusal.{Refusal}
-use Rattle.refusal.specs.declared.Written.{Written}
-use Rattle.text.specs.Put.{front, Put, Writes}
+use Rattle.refusal.specs.Answers.{Written}
+use Rattle.text.specs.Put.{front, Put, Writes, leaves}
+
+-- a refusal leaves the buffer as it was
+pub refused_leaves : (answer : Written) (why : Refusal) (t b : List ℕ) → answer ≡ Err why → b ≡ leaves answer t b
+refused_leaves answer why t b e = sym (ap (λ (w : Written). leaves w t b) e)
 
 pub length_front : (t b : List ℕ) → length t ≤ length b → length (front t b) ≡ length b
 length_front t b h = simp (length-append, length-drop) (omega arith)
@@ -77,35 +82,35 @@ copied t b i h g =
     ∙ ap (λ (k : ℕ). take k t ++ drop k b) (sym (add-one i))
 
 -- a text that was put where it had room was written
-pub put_writes : (t b b' : List ℕ) (n : ℕ) → length t ≤ length b → Put t b b' n → Writes t b b' (Written.Wrote n)
+pub put_writes : (t b b' : List ℕ) (n : ℕ) → length t ≤ length b → Put t b b' n → Writes t b b' (Ok n)
 put_writes t b b' n h p = (
-  ap Written.Wrote p.0 ∙ sym (ap (λ (e : Bool). cond e (Written.Wrote (length t)) (Written.Refused Refusal.BufferShort))
+  ap Ok p.0 ∙ sym (ap (λ (e : Bool). cond e (Ok (length t)) (Err Refusal.BufferShort))
       (le-leb (length t) (length b) h)),
   p.1,
 )
 
 -- a text without room is refused, and the buffer is as it was
-pub short_writes : (t b : List ℕ) → length b < length t → Writes t b b (Written.Refused Refusal.BufferShort)
+pub short_writes : (t b : List ℕ) → length b < length t → Writes t b b (Err Refusal.BufferShort)
 short_writes t b h =
-    (sym (ap (λ (e : Bool). cond e (Written.Wrote (length t)) (Written.Refused Refusal.BufferShort)) (lt-leb (length t) (length b) h)), refl)
+    (sym (ap (λ (e : Bool). cond e (Ok (length t)) (Err Refusal.BufferShort)) (lt-leb (length t) (length b) h)), refl)
 
 -- a writer that reports n bytes has put the text
-pub wrote_put : (t b b' : List ℕ) (n : ℕ) → Writes t b b' (Written.Wrote n) → Put t b b' n
+pub wrote_put : (t b b' : List ℕ) (n : ℕ) → Writes t b b' (Ok n) → Put t b b' n
 wrote_put t b b' n w = (count (leb (length t) (length b)) w.0, w.1)
   where
-    count : (e : Bool) → Written.Wrote n ≡ cond e (Written.Wrote (length t)) (Written.Refused Refusal.BufferShort) → n ≡ length t
+    count : (e : Bool) → Ok n ≡ cond e (Ok (length t)) (Err Refusal.BufferShort) → n ≡ length t
     count true q = cc
     count false q = let z : ◌≡◌ {A = ℕ} 0 1 = cc in absurd (omega arith)
 
 -- where there is room nothing is refused
-pub has_room : (t b b' : List ℕ) (why : Refusal) → length t ≤ length b → Writes t b b' (Written.Refused why) → ⊥
+pub has_room : (t b b' : List ℕ) (why : Refusal) → length t ≤ length b → Writes t b b' (Err why) → ⊥
 has_room t b b' why h w =
     let room = le-leb (length t) (length b) h in
-    let z : ◌≡◌ {A = ℕ} 0 1 = cc (ap (λ (e : Bool). cond e (Written.Wrote (length t)) (Written.Refused Refusal.BufferShort)) room) in
+    let z : ◌≡◌ {A = ℕ} 0 1 = cc (ap (λ (e : Bool). cond e (Ok (length t)) (Err Refusal.BufferShort)) room) in
     omega arith
 
 -- the bytes that a writer reports are the text
-pub written_front : (t b b' : List ℕ) (n : ℕ) → Writes t b b' (Written.Wrote n) → take n b' ≡ t
+pub written_front : (t b b' : List ℕ) (n : ℕ) → Writes t b b' (Ok n) → take n b' ≡ t
 written_front t b b' n w =
     let p = wrote_put t b b' n w in
     ap (take n) p.1 ∙ take_at t (drop (length t) b) n (sym p.0)

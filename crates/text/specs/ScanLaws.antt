@@ -1,11 +1,14 @@
 -- Laws of runs and tokens.
-use Rattle.std.specs.Prelude.{ℕ, suc, ◌+◌, ◌≤◌, ◌<◌, ◌≡◌, refl, Bool, true, false, cond, not, ◌&&◌, List, [], ◌∷◌, ◌++◌, length, get_or, take, drop, eqb}
-use Rattle.std.proofs.Common.{zero-le, suc-le-suc, sym, ◌∙◌, ap, ap₂, append-nil, arith, add-one, length-take, length-drop, drop_of_length-le}
+use Rattle.std.specs.List.{prefix_len, take_while}
+use Rattle.std.specs.Prelude.{ℕ, suc, ◌+◌, ◌-◌, ◌≤◌, ◌<◌, ◌≡◌, refl, Bool, true, false, cond, not, ◌&&◌, List, [], ◌∷◌, ◌++◌, length, get_or, take, drop, eqb}
+use Rattle.std.proofs.Common.{zero-le, suc-le-suc, sym, ◌∙◌, ap, ap₂, append-nil, arith, add-one}
+use Rattle.std.proofs.Common.{one-add, length-take, length-drop, drop_of_length-le, leb, leb-true, leb-false, min, take_all}
 use Rattle.std.proofs.Common.{length-take-le, drop-cons}
 use Rattle.std.proofs.Math.Seq.{append_snoc, take-length, drop-length, take-append_seam, drop-append_seam}
+use Rattle.std.proofs.lemmas.List.Folds.{length-prefix_len}
 use Rattle.std.proofs.Math.Dec.{eqb-suc-suc, eqb-zero-suc}
 use Rattle.std.proofs.lemmas.Bool.{not-true}
-use Rattle.text.specs.Tests.{every, either, both}
+use Rattle.text.specs.Tests.{every, cases, either, both}
 use Rattle.text.specs.Kinds.{is_white, is_solid}
 use Rattle.text.specs.Scan.{run_of, stretch, piece, parted, tokens, unspaced}
 
@@ -165,3 +168,20 @@ run_whole test (b ∷ s) = one_more (test b) (every test s) (run_of test s) (len
     one_more : (t p : Bool) (n m : ℕ) → eqb n m ≡ p → eqb (cond t (suc n) 0) (suc m) ≡ (t && p)
     one_more true p n m e = eqb-suc-suc n m ∙ e
     one_more false p n m e = eqb-zero-suc m
+
+-- a run is as long as what the library takes while the test passes
+run_prefix : (test : ℕ → Bool) (s : List ℕ) → run_of test s ≡ prefix_len test s
+unfolding run_of
+run_prefix test [] = refl
+run_prefix test (b ∷ s) = rw one-add (ap (λ (n : ℕ). cond (test b) (suc n) 0) (run_prefix test s))
+
+pub run_taken : (test : ℕ → Bool) (s : List ℕ) → length (take_while test s) ≡ run_of test s
+run_taken test s = length-prefix_len test s ∙ sym (run_prefix test s)
+
+-- what lies from a place on, or from the end if that comes first
+pub rest_least : (s : List ℕ) (at k : ℕ) → k ≡ min at (length s) → take (length s - k) (drop k s) ≡ drop at s
+rest_least s at k e =
+    take_all (length s - k) (drop k s) (simp length-drop (omega arith))
+    ∙ cases (leb at (length s))
+    (λ t. let within = leb-true at (length s) t in let same : k ≡ at = omega arith in ap (λ (n : ℕ). drop n s) same)
+    (λ t. let past = leb-false at (length s) t in drop_of_length-le s (omega arith) ∙ sym (drop_of_length-le s (omega arith)))

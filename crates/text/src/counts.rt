@@ -8,14 +8,7 @@ ghost use Rattle.text.specs.Counts.{counted_of, width_of, decimal_of};
 
 use crate::kinds::Kind;
 use crate::put::spell;
-use crate::scan::{digit_value, run};
-
-// A token's count, if it is one.
-#[derive(Clone, Copy)]
-pub enum Counted {
-    Is(u32),
-    Unread,
-}
+use crate::scan::run;
 
 // What up to four digits stand for.
 fn number(t: &[u8]) -> u32
@@ -23,38 +16,36 @@ fn number(t: &[u8]) -> u32
     ensures { result ≡ number_of 10 t.now }
 {
     let mut n: u32 = 0;
-    let mut i = 0;
-    while i < t.len() {
-        n = n * 10 + digit_value(t[i]) as u32;
-        i += 1;
+    for d in t {
+        n = n * 10 + u32::from(d - b'0');
     }
     n
 }
 
-pub fn read_count(t: &[u8]) -> Counted
+// A token's count, if it is one.
+pub fn read_count(t: &[u8]) -> Option<u32>
     ensures { result ≡ counted_of t.now }
 {
     let n = t.len();
     if n < 1 {
-        return Counted::Unread;
+        return None;
     }
     if (n <= 4) & (run(t, 0, Kind::Digit) == n) & !((1 < n) & (t[0] == b'0')) {
-        return Counted::Is(number(t));
+        return Some(number(t));
     }
-    Counted::Unread
+    None
 }
 
 // How many digits a count up to 9,999 has.
 pub fn width(n: u32) -> usize
     ensures { result ≡ width_of n }
 {
-    if n < 10 {
-        return 1;
+    match n {
+        0..=9 => 1,
+        10..=99 => 2,
+        100..=999 => 3,
+        _ => 4,
     }
-    if n < 100 {
-        return 2;
-    }
-    if n < 1000 { 3 } else { 4 }
 }
 
 // A count at the front of the buffer, and one byte after it.
@@ -62,7 +53,7 @@ pub fn put_count_and(buf: &mut [u8], n: u32, last: u8) -> usize
     requires { width_of n + 1 ≤ length buf.old }
     ensures { Put (decimal_of n ++ last ∷ []) buf.old buf.new result }
 {
-    let a = spell(buf, n as u64, 10, width(n));
+    let a = spell(buf, u64::from(n), 10, width(n));
     buf[a] = last;
     a + 1
 }

@@ -2,7 +2,8 @@
 ghost use Rattle.std.specs.Prelude.{◌≡◌};
 ghost use Rattle.text.specs.Kinds.{is_letter, is_white, lower_of};
 
-// What a run of bytes is made of.
+// What a run of bytes is made of. An enum and no closure, so that `run` and `stretch_at` are one function each in the compiled code (a closure makes one for
+// each caller), and promises and theorems name a kind.
 #[derive(Clone, Copy)]
 pub enum Kind {
     White, // of a reply: space, tab, carriage return, newline
@@ -18,24 +19,19 @@ pub enum Kind {
 pub fn is_letter(b: u8) -> bool
     ensures { result ≡ is_letter b }
 {
-    ((b'A' <= b) & (b <= b'Z')) | ((b'a' <= b) & (b <= b'z'))
+    b.is_ascii_alphabetic()
 }
 
+// Not `is_ascii_whitespace`, for which a form feed is white space.
 pub fn is_white(b: u8) -> bool
     ensures { result ≡ is_white b }
 {
-    (b == b' ') | (b == b'\t') | (b == b'\r') | (b == b'\n')
+    matches!(b, b' ' | b'\t' | b'\r' | b'\n')
 }
 
 // An upper-case letter's lower case; any other byte as it is.
 pub fn lower(b: u8) -> u8
     ensures { result ≡ lower_of b }
 {
-    if b < b'A' {
-        return b;
-    }
-    if b'Z' < b {
-        return b;
-    }
-    b + 32
+    b.to_ascii_lowercase()
 }

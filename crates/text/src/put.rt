@@ -1,6 +1,6 @@
 // What is put at the front of a lent buffer: a text, and a number in digits.
-ghost use Rattle.std.specs.Prelude.{◌≡◌, [], ◌∷◌, ◌++◌, ◌+◌, ◌≤◌, ◌<◌, length};
-ghost use Rattle.text.specs.Digits.{digit_of, digits_of};
+ghost use Rattle.std.specs.Prelude.{[], ◌∷◌, ◌++◌, ◌+◌, ◌≤◌, ◌<◌, length};
+ghost use Rattle.text.specs.Digits.{digits_of};
 ghost use Rattle.text.specs.Put.{Put};
 
 // The bytes of `t` at the front of the buffer, and how many they are.
@@ -8,12 +8,9 @@ pub fn copy(buf: &mut [u8], t: &[u8]) -> usize
     requires { length t.now ≤ length buf.old }
     ensures { Put t.now buf.old buf.new result }
 {
-    let mut i = 0;
-    while i < t.len() {
-        buf[i] = t[i];
-        i += 1;
-    }
-    i
+    let n = t.len();
+    buf[..n].copy_from_slice(t);
+    n
 }
 
 // The same and one byte after it.
@@ -26,31 +23,7 @@ pub fn copy_and(buf: &mut [u8], t: &[u8], last: u8) -> usize
     a + 1
 }
 
-// The byte for a digit. A table of sixteen: by arithmetic the compiler spelt all sixteen digits at once, in three times
-// the code.
-fn digit(d: u8) -> u8
-    requires { d < 16 }
-    ensures { result ≡ digit_of d }
-{
-    match d {
-        0 => b'0',
-        1 => b'1',
-        2 => b'2',
-        3 => b'3',
-        4 => b'4',
-        5 => b'5',
-        6 => b'6',
-        7 => b'7',
-        8 => b'8',
-        9 => b'9',
-        10 => b'a',
-        11 => b'b',
-        12 => b'c',
-        13 => b'd',
-        14 => b'e',
-        _ => b'f',
-    }
-}
+const DIGITS: &[u8; 16] = b"0123456789abcdef";
 
 // The last `k` digits of `n` in that base at the front of the buffer, and how many they are.
 pub fn spell(buf: &mut [u8], n: u64, base: u64, k: usize) -> usize
@@ -58,10 +31,8 @@ pub fn spell(buf: &mut [u8], n: u64, base: u64, k: usize) -> usize
     ensures { Put (digits_of base k n) buf.old buf.new result }
 {
     let mut rest = n;
-    let mut i = k;
-    while 0 < i {
-        i -= 1;
-        buf[i] = digit((rest % base) as u8);
+    for i in (0..k).rev() {
+        buf[i] = DIGITS[(rest % base) as usize];
         rest /= base;
     }
     k

@@ -1,11 +1,11 @@
 // What is read from a text: how far bytes of one kind go, whether two texts are the same, and what a digit stands for.
 ghost use Rattle.std.specs.Prelude.{◌≡◌, ◌+◌, ◌≤◌, length, drop};
-ghost use Rattle.text.specs.Digits.{digit_value};
+ghost use Rattle.text.specs.Digits.{digit_found};
 ghost use Rattle.text.specs.Kinds.{of_kind};
 ghost use Rattle.text.specs.Scan.{run_of, stretch, index_of};
 ghost use Rattle.text.specs.Tests.{same as same_text};
 
-use crate::kinds::{Kind, is_letter, is_white, lower};
+use crate::kinds::{Kind, is_white};
 
 // Whether a byte is of that kind.
 fn of_kind(kind: Kind, b: u8) -> bool
@@ -14,12 +14,12 @@ fn of_kind(kind: Kind, b: u8) -> bool
     match kind {
         Kind::White => is_white(b),
         Kind::Solid => !is_white(b),
-        Kind::Blank => (b == b' ') | (b == b'\t'),
-        Kind::Token => !((b == b' ') | (b == b'\t') | (b == b'\n')),
+        Kind::Blank => matches!(b, b' ' | b'\t'),
+        Kind::Token => !matches!(b, b' ' | b'\t' | b'\n'),
         Kind::Part => b != b':',
-        Kind::Digit => (b'0' <= b) & (b <= b'9'),
-        Kind::Letter => is_letter(b),
-        Kind::LetterOrDigit => is_letter(b) | ((b'0' <= b) & (b <= b'9')),
+        Kind::Digit => b.is_ascii_digit(),
+        Kind::Letter => b.is_ascii_alphabetic(),
+        Kind::LetterOrDigit => b.is_ascii_alphanumeric(),
     }
 }
 
@@ -27,14 +27,8 @@ fn of_kind(kind: Kind, b: u8) -> bool
 pub fn run(s: &[u8], at: usize, kind: Kind) -> usize
     ensures { result ≡ run_of (of_kind kind) (drop at s.now) }
 {
-    let mut i = at;
-    while i < s.len() {
-        if !of_kind(kind, s[i]) {
-            return i - at;
-        }
-        i += 1;
-    }
-    i - at
+    let rest = &s[at.min(s.len())..];
+    rest.iter().take_while(|b| of_kind(kind, **b)).count()
 }
 
 // The bytes of that kind that stand one after the other from `at` on.
@@ -51,36 +45,25 @@ pub fn find(s: &[u8], from: usize, b: u8) -> usize
     ensures place { result ≡ from + index_of b (drop from s.now) }
     ensures within { from ≤ length s.now → result ≤ length s.now }
 {
-    let mut at = from;
-    while at < s.len() {
-        if s[at] == b {
-            return at;
-        }
-        at += 1;
-    }
-    at
+    let rest = &s[from.min(s.len())..];
+    from + rest.iter().take_while(|c| **c != b).count()
 }
 
 // Whether two texts are the same.
 pub fn same(a: &[u8], b: &[u8]) -> bool
     ensures { result ≡ same_text a.now b.now }
 {
-    check::same(a, b)
+    a == b
 }
 
-// What a digit stands for, hex digits of either case among them; 16 for a byte that is none.
-pub fn digit_value(b: u8) -> u8
-    ensures { result ≡ digit_value b }
+// What a hex digit of either case stands for, if the byte is one. By ranges: `to_digit` takes a character and gives a `u32`, and is no plainer.
+pub fn digit_value(b: u8) -> Option<u8>
+    ensures { result ≡ digit_found b }
 {
-    if (b'0' <= b) & (b <= b'9') {
-        return b - b'0';
+    match b {
+        b'0'..=b'9' => Some(b - b'0'),
+        b'a'..=b'f' => Some(b - b'a' + 10),
+        b'A'..=b'F' => Some(b - b'A' + 10),
+        _ => None,
     }
-    let l = lower(b);
-    if l < b'a' {
-        return 16;
-    }
-    if b'f' < l {
-        return 16;
-    }
-    l - 87 // `a` is 10
 }

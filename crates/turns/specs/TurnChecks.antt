@@ -1,7 +1,7 @@
 -- The checks of a turn, on the room in whose line the port stands, that line and its account: TurnCheckLaws ties them to the written ones.
-use Rattle.std.specs.Prelude.{ℕ, not, List, [], ◌∷◌, eqb, leb, ltb}
+use Rattle.std.specs.Prelude.{ℕ, not, List, [], ◌∷◌, eqb, leb, ltb, Err}
 use Rattle.refusal.specs.declared.Refusal.{Refusal}
-use Rattle.refusal.specs.declared.Checked.{Checked}
+use Rattle.refusal.specs.Answers.{Checked}
 use Rattle.refusal.specs.Checks.{must, unless, in_order}
 use Rattle.line.specs.Line.{Waiting, front_of}
 use Rattle.accounts.specs.Rooms.{Room}
@@ -18,4 +18,4 @@ abbrev pub account_checks : Room → List Checked
 account_checks room = must (not (eqb room.id 0)) Refusal.AccountMissing ∷ must (ltb 1 room.count) Refusal.AccountUsedUp ∷ []
 
 unfoldable pub front_checked : ℕ → ℕ → Waiting → Room → Checked
-front_checked port place line room = unless Checked.Refused (in_order (place_checks port place line)) (in_order (account_checks room))
+front_checked port place line room = unless Err (in_order (place_checks port place line)) (in_order (account_checks room))

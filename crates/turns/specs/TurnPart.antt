@@ -1,14 +1,14 @@
 -- What a call of a turn looks at, and what becomes of it: TurnPartLaws ties it to the written steps, on the whole table.
-use Rattle.std.specs.Prelude.{ℕ, Bool, true, false, cond, List, eqb}
+use Rattle.std.specs.Prelude.{ℕ, Bool, true, false, cond, List, eqb, Ok, Err}
 use Rattle.refusal.specs.declared.Refusal.{Refusal}
-use Rattle.refusal.specs.declared.Checked.{Checked}
+use Rattle.refusal.specs.Answers.{Checked}
 use Rattle.refusal.specs.Checks.{unless}
 use Rattle.password.specs.Password.{hash, bytes_of}
 use Rattle.port.specs.declared.Port.{Port}
 use Rattle.port.specs.Port.{wrongly, wrong_answer, rightly}
 use Rattle.accounts.specs.Rooms.{Room, part_of, room_of}
 use Rattle.accounts.specs.Accounts.{renewed_room, lowered, values_checked}
-use Rattle.table.specs.declared.Replied.{Replied}
+use Rattle.table.specs.Answers.{Replied}
 use Rattle.table.specs.Table.{State, port_of, stands_at, own_account, with_account, with_port}
 use Rattle.table.specs.Steps.{After, turn_checked, leaves}
 use Rattle.turns.specs.declared.offering.TurnPart.{TurnPart}
@@ -48,8 +48,8 @@ outcome o older = record {
 
 -- The older seeds after an answer: others where it is accepted, and as they were where it isn't.
 abbrev pub older_after : Replied → List ℕ → List ℕ → List ℕ
-older_after (Replied.Accepted count) older next = next
-older_after (Replied.Refused why) older next = older
+older_after (Ok count) older next = next
+older_after (Err why) older next = older
 
 -- The table with what became of the account and of the port.
 abbrev pub put_back : ℕ → State → Said → State
@@ -65,14 +65,14 @@ abbrev pub stays : Replied → Seen → Said
 stays answer t = record { place = t.place; account = t.account; own = t.own; leaves = false; answer = answer }
 
 abbrev pub refused : Seen → Refusal → Said
-refused t why = stays (Replied.Refused why) t
+refused t why = stays (Err why) t
 
 -- What is offered is right, or it isn't.
 abbrev pub accepted : Room → Seen → Said
-accepted next t = record { place = t.place; account = next; own = rightly t.own; leaves = true; answer = Replied.Accepted next.count }
+accepted next t = record { place = t.place; account = next; own = rightly t.own; leaves = true; answer = Ok next.count }
 
 abbrev pub rejected : Seen → Said
-rejected t = record { place = t.place; account = t.account; own = wrongly t.own; leaves = true; answer = Replied.Refused (wrong_answer t.own) }
+rejected t = record { place = t.place; account = t.account; own = wrongly t.own; leaves = true; answer = Err (wrong_answer t.own) }
 
 unfoldable pub compared : ℕ → Room → Seen → Said
 compared password next t =

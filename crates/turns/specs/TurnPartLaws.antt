@@ -1,11 +1,11 @@
 -- What is put back is what is written of the table: nothing where nothing was done, and what Offer does, also of a renewal.
-use Rattle.std.specs.Prelude.{ℕ, ◌<◌, ◌≡◌, Bool, eqb, List, length}
+use Rattle.std.specs.Prelude.{ℕ, ◌<◌, ◌≡◌, Bool, eqb, List, length, Ok, Err}
 use Rattle.std.proofs.Math.Path.{refl}
 use Rattle.std.proofs.Common.{ap, ◌∙◌}
 use Rattle.std.proofs.Math.Bool.{true, false, cond}
 use Rattle.std.proofs.lemmas.List.{set-get_or}
 use Rattle.refusal.specs.declared.Refusal.{Refusal}
-use Rattle.refusal.specs.declared.Checked.{Checked}
+use Rattle.refusal.specs.Answers.{Checked}
 use Rattle.refusal.specs.Checks.{unless}
 use Rattle.password.specs.Password.{hash, bytes_of}
 use Rattle.port.specs.Port.{wrongly, wrong_answer}
@@ -15,7 +15,7 @@ use Rattle.accounts.specs.Accounts.{renewed_room, lowered, values_checked}
 use Rattle.accounts.specs.OlderBytes.{remembering}
 use Rattle.accounts.specs.Laws.{part_elsewhere}
 use Rattle.table.specs.declared.Table.{Table}
-use Rattle.table.specs.declared.Replied.{Replied}
+use Rattle.table.specs.Answers.{Replied}
 use Rattle.table.specs.Table.{State, view, free_room, fresh_port, stands_at, own_account, port_of, with_account, with_port}
 use Rattle.table.specs.ViewLaws.{older_elsewhere}
 use Rattle.table.specs.Steps as steps
@@ -47,14 +47,14 @@ after_elsewhere port t older older' o f =
 
 -- Where the older seeds are the same either way.
 pub same_older : (r : Replied) (older : List ℕ) → older_after r older older ≡ older
-same_older (Replied.Accepted count) older = refl
-same_older (Replied.Refused why) older = refl
+same_older (Ok count) older = refl
+same_older (Err why) older = refl
 
 -- Only those of the turn's own room may be others.
 pub older_after_lem : (r : Replied) (place : ℕ) (account : Account) (older : List ℕ) → place < 32 → length older ≡ 3808 → length account.seed ≡ 16
     → (room : ℕ) → (room ≡ place → ⊥) → part_of (older_after r older (remembering place account older)) room ≡ part_of older room
-older_after_lem (Replied.Accepted count) place account older h all e room d = part_elsewhere place account older h all e room d
-older_after_lem (Replied.Refused why) place account older h all e room d = refl
+older_after_lem (Ok count) place account older h all e room d = part_elsewhere place account older h all e room d
+older_after_lem (Err why) place account older h all e room d = refl
 
 -- What is compared stays in the turn's room.
 compared-place : (password : ℕ) (next : Room) (t : Seen) → (compared password next t).place ≡ t.place
@@ -71,8 +71,8 @@ unfolding renew_values
 renewed_place number count seed new password t = by (values_checked number count seed t.account)
   where
     by : (k : Checked) → (unless (refused t) k (compared password (renewed_room t.account number count seed new) t)).place ≡ t.place
-    by (Checked.Refused why) = refl
-    by Checked.Good = compared-place password (renewed_room t.account number count seed new) t
+    by (Err why) = refl
+    by (Ok _) = compared-place password (renewed_room t.account number count seed new) t
 
 module _ (port : ℕ) (s : State) where
   -- The account where it was found.
@@ -82,12 +82,12 @@ module _ (port : ℕ) (s : State) where
   -- A refusal changes no table.
   after-refused : (why : Refusal) → after port s (refused (seen_by port s) why) ≡ steps.reply_refused s why
   after-refused why =
-      λ i. record { answer = Replied.Refused why; state = record { rooms = (account_same i).rooms; ports = set-get_or s.ports port fresh_port i } }
+      λ i. record { answer = Err why; state = record { rooms = (account_same i).rooms; ports = set-get_or s.ports port fresh_port i } }
 
   after-rejected : after port s (rejected (seen_by port s)) ≡ steps.rejected port s
   after-rejected =
       ap (λ (s' : State). record {
-        answer = Replied.Refused (wrong_answer (port_of port s));
+        answer = Err (wrong_answer (port_of port s));
         state = steps.leaves port (with_port port (wrongly (port_of port s)) s');
       }) account_same
 
@@ -105,8 +105,8 @@ module _ (port : ℕ) (s : State) where
   -- A check, and what is done behind it.
   after-unless : (k : Checked) (o : Said) (a : After Replied) → after port s o ≡ a
       → after port s (unless (refused (seen_by port s)) k o) ≡ unless (steps.reply_refused s) k a
-  after-unless Checked.Good o a e = e
-  after-unless (Checked.Refused why) o a e = after-refused why
+  after-unless (Ok _) o a e = e
+  after-unless (Err why) o a e = after-refused why
 
   pub after-offer : (password : ℕ) → after port s (logged_in password (seen_by port s)) ≡ steps.offer port password s
   unfolding logged_in steps.offer
@@ -116,9 +116,9 @@ module _ (port : ℕ) (s : State) where
 
   -- A renewal's checks: the turn's, and then those of the values.
   both_checked : (turn values : Checked) (a : After Replied)
-      → unless (steps.reply_refused s) turn (unless (steps.reply_refused s) values a) ≡ unless (steps.reply_refused s) (unless Checked.Refused turn values) a
-  both_checked Checked.Good values a = refl
-  both_checked (Checked.Refused why) values a = refl
+      → unless (steps.reply_refused s) turn (unless (steps.reply_refused s) values a) ≡ unless (steps.reply_refused s) (unless Err turn values) a
+  both_checked (Ok _) values a = refl
+  both_checked (Err why) values a = refl
 
   pub after_renewal : (number count : ℕ) (seed : List ℕ) (new password : ℕ)
       → after port s (renewed number count seed new password (seen_by port s)) ≡ steps.offer_renewal port number count seed new password s

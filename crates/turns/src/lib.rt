@@ -5,7 +5,6 @@ ghost use Rattle.std.specs.Prelude.{ℕ, ◌≡◌, List, length, get_or, set};
 ghost use Rattle.text.specs.Put.{leaves};
 ghost use Rattle.table.specs.Table.{view, fresh_port};
 ghost use Rattle.table.specs.Steps as steps;
-ghost use Rattle.table.specs.declared.Replied.{Replied};
 ghost use Rattle.refusal.specs.declared.Refusal.{Refusal};
 ghost use Rattle.turns.specs.TurnPart.{seen, seen_by, outcome, after};
 
@@ -13,9 +12,8 @@ use crate::offering::{Outcome, TurnPart, logged_in};
 use crate::renewals::renewed;
 use crate::turn_checks::check_turn;
 use accounts::lowered::write_challenge;
-use line::room_of;
 use port::Port;
-use refusal::{Checked, Written};
+use refusal::Written;
 use table::held::{account_at, put};
 use table::{Answered, Table};
 
@@ -42,7 +40,7 @@ fn turn_of(table: Table, port: u8) -> TurnPart
     ensures { (older : List ℕ) → seen result older ≡ seen_by port (view table older) }
 {
     let lines = table.lines;
-    let place = room_of(lines, port);
+    let place = lines.room_of(port).unwrap_or(32); // past the last room, where it is in none
     let account = account_at(table, place);
     let checked = check_turn(lines, place, account, port);
     let ports = table.ports;
@@ -78,7 +76,7 @@ fn put_back(table: Table, port: u8, made: Outcome) -> Answered
     next.ports = own;
     if made.leaves {
         let waiting = next.lines;
-        let lines = line::leave(waiting, port);
+        let lines = waiting.leave(port);
         next.lines = lines;
     }
     let answer = made.answer;
@@ -94,12 +92,8 @@ pub fn challenge(table: Table, port: u8, buf: &mut [u8]) -> Written
     ensures left { (older : List ℕ) → buf.new ≡ leaves result (steps.challenge_for port (view table older)) buf.old }
 {
     let turn = turn_of(table, port);
-    let checked = turn.checked;
-    if let Checked::Refused(why) = checked {
-        return Written::Refused(why);
-    }
-    let account = turn.account;
-    write_challenge(account, buf)
+    turn.checked?;
+    write_challenge(turn.account, buf)
 }
 
 // A password, however the port came by it. The older seeds stay.
@@ -123,7 +117,7 @@ pub fn offer_renewal(
 ) -> Answered
     ensures answered { steps.answered result older.new
         ≡ steps.offer_renewal port algorithm count seed.now new password (view table older.old) }
-    ensures left { (why : Refusal) → result.answer ≡ Replied.Refused why → older.new ≡ older.old }
+    ensures left { (why : Refusal) → result.answer ≡ Err why → older.new ≡ older.old }
 {
     let made = renewed(
         turn_of(table, port),

@@ -7,7 +7,7 @@ ghost use Rattle.turns.specs.TurnPart.{seen, outcome, older_after};
 use accounts::Account;
 use accounts::lowered::lower;
 use generator::chain::step;
-use port::{Port, after_right, after_wrong, wrong_answer};
+use port::Port;
 use refusal::Checked;
 use table::Replied;
 
@@ -52,9 +52,9 @@ fn accepted(turn: TurnPart, next: Account) -> Outcome
     Outcome {
         place: turn.place,
         account: next,
-        own: after_right(turn.own),
+        own: turn.own.after_right(),
         leaves: true, // a match uses the turn up
-        answer: Replied::Accepted(next.count),
+        answer: Ok(next.count),
     }
 }
 
@@ -65,9 +65,9 @@ fn rejected(turn: TurnPart) -> Outcome
     Outcome {
         place: turn.place,
         account: present,
-        own: after_wrong(turn.own),
+        own: turn.own.after_wrong(),
         leaves: true,
-        answer: Replied::Refused(wrong_answer(turn.own)),
+        answer: Err(turn.own.wrong_answer()),
     }
 }
 
@@ -88,9 +88,8 @@ pub fn compare(turn: TurnPart, password: u64, next: Account) -> Outcome
 pub fn logged_in(turn: TurnPart, password: u64) -> Outcome
     ensures { (older : List ℕ) → outcome result older ≡ spec.logged_in password (seen turn older) }
 {
-    let checked = turn.checked;
-    if let Checked::Refused(why) = checked {
-        return stays(turn, Replied::Refused(why));
+    if let Err(why) = turn.checked {
+        return stays(turn, Err(why));
     }
     let account = turn.account;
     compare(turn, password, lower(account, password))

@@ -3,70 +3,96 @@
 // `stdout` beside src/ has the RFC's rows.
 #![tactic(auto)]
 
-use refusal::{Reading, Written};
+use refusal::Written;
 use std::io;
 
 // What a writer put at the front of the buffer, on standard output.
 fn show(to: io::Stdout, written: Written, buf: &[u8]) -> io::Result<()> {
-    let Written::Wrote(n) = written else {
+    let Ok(n) = written else {
         return Ok(());
     };
-    if n <= buf.len() {
-        to.write_all(&buf[..n])?;
-    }
-    Ok(())
+    to.write_all(buf.get(..n).unwrap_or(buf))
 }
 
 fn both_texts(to: io::Stdout, p: u64) -> io::Result<()> {
     let mut hex = [0u8; 16];
     let written = hex_text::write_hex(p, &mut hex);
     show(to, written, &hex)?;
-    to.write_all(b"\t")?;
+    print!(to; "\t")?;
     let mut words = [0u8; 29];
     let written = sixwords::spelling::write_words(p, &mut words);
     show(to, written, &words)
 }
 
-// The row of an algorithm, which has that number and name.
-fn row(
-    to: io::Stdout,
+// A row but for what the generator makes of it. The algorithm has that number and name.
+#[derive(Clone, Copy)]
+struct Row {
     algorithm: u32,
-    name: &[u8],
-    phrase: &[u8],
-    seed: &[u8],
+    name: &'static str,
+    phrase: &'static str,
+    seed: &'static str,
     count: u32,
-) -> io::Result<()> {
-    to.write_all(name)?;
-    to.write_all(b"\t")?;
-    to.write_all(phrase)?;
-    to.write_all(b"\t")?;
-    to.write_all(seed)?;
-    to.write_all(b"\t")?;
-    to.print(count)?;
-    to.write_all(b"\t")?;
-    if let Reading::Password(p) = generator::generate(algorithm, phrase, seed, count) {
+}
+
+fn print_row(to: io::Stdout, row: Row) -> io::Result<()> {
+    let Row {
+        algorithm,
+        name,
+        phrase,
+        seed,
+        count,
+    } = row;
+    print!(to; "{name}\t{phrase}\t{seed}\t{count}\t")?;
+    if let Ok(p) = generator::generate(algorithm, phrase.as_bytes(), seed.as_bytes(), count) {
         both_texts(to, p)?;
     }
-    to.write_all(b"\n")
+    println!(to)
 }
 
 // The counts that Appendix C prints for each pass-phrase and seed.
-fn rows(to: io::Stdout, algorithm: u32, name: &[u8], phrase: &[u8], seed: &[u8]) -> io::Result<()> {
-    row(to, algorithm, name, phrase, seed, 0)?;
-    row(to, algorithm, name, phrase, seed, 1)?;
-    row(to, algorithm, name, phrase, seed, 99)
+fn print_counts(to: io::Stdout, row: Row) -> io::Result<()> {
+    for count in [0, 1, 99] {
+        print_row(to, Row { count, ..row })?;
+    }
+    Ok(())
 }
 
 // All that Appendix C prints for an algorithm.
-fn appendix_c(to: io::Stdout, algorithm: u32, name: &[u8]) -> io::Result<()> {
-    rows(to, algorithm, name, b"This is a test.", b"TeSt")?;
-    rows(to, algorithm, name, b"AbCdEfGhIjK", b"alpha1")?;
-    rows(to, algorithm, name, b"OTP's are good", b"correct")
+fn print_appendix_c(to: io::Stdout, row: Row) -> io::Result<()> {
+    for (phrase, seed) in [
+        ("This is a test.", "TeSt"),
+        ("AbCdEfGhIjK", "alpha1"),
+        ("OTP's are good", "correct"),
+    ] {
+        print_counts(
+            to,
+            Row {
+                phrase,
+                seed,
+                ..row
+            },
+        )?;
+    }
+    Ok(())
 }
 
 fn main(rt: HostRuntime) -> io::Result<()> {
     let to = rt.stdout();
-    appendix_c(to, 1, b"md5")?;
-    appendix_c(to, 2, b"sha1")?;
-    row(to, 1, b"md5", b"A_Valid_Pass_Phrase", b"AValidSeed", 99)
+    let parity = Row {
+        algorithm: 1,
+        name: "md5",
+        phrase: "A_Valid_Pass_Phrase",
+        seed: "AValidSeed",
+        count: 99,
+    };
+    print_appendix_c(to, parity)?;
+    print_appendix_c(
+        to,
+        Row {
+            algorithm: 2,
+            name: "sha1",
+            ..parity
+        },
+    )?;
+    print_row(to, parity)
 }

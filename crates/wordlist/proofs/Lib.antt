@@ -1,4 +1,2 @@
 -- Lemmas of this crate's proofs.
-mod Ends
-mod Spans
-mod RowLaws
+mod TableWords

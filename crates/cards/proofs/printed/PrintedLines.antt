@@ -1,4 +1,5 @@
 -- What is printed, from what the card writer answers in a buffer with room for the largest card.
+use Rattle.std.specs.Prelude.{Ok, Err}
 use Prim.Native.Nat.{ℕ, ◌≤◌, ◌<◌}
 use mathlib.Core.Path.{◌≡◌, refl, ◌∙◌, ap}
 use mathlib.Core.Bool.{Bool, cond}
@@ -7,8 +8,7 @@ use native.Mathlib.Omega.{arith}
 use lib.ListN.{length}
 use borrow.Author.Tests.{le-leb, lt-ltb, le-ltb}
 use Rattle.refusal.specs.declared.Refusal.{Refusal}
-use Rattle.refusal.specs.declared.Checked.{Checked}
-use Rattle.refusal.specs.declared.Written.{Written}
+use Rattle.refusal.specs.Answers.{Checked}
 use Rattle.refusal.specs.Checks.{unless}
 use Rattle.text.specs.Put.{Put, written_of, leaves}
 use Rattle.cards.specs.CardChecks.{card_checked}
@@ -19,43 +19,43 @@ use Rattle.cards.specs.Laws.{largest_card}
 module _ (phrase challenge : List ℕ) (k : ℕ) where
   -- the writer's answer by what the checks find
   answered : (c : Checked) → card_checked phrase challenge k ≡ c
-      → card_written phrase challenge k 5148 ≡ unless Written.Refused c (Written.Wrote (length (card_of phrase challenge k)))
+      → card_written phrase challenge k 5148 ≡ unless Err c (Ok (length (card_of phrase challenge k)))
   unfolding card_written
-  answered Checked.Good e =
-      ap (λ (c : Checked). unless Written.Refused c (written_of 5148 (card_of phrase challenge k))) e
-      ∙ ap (λ (t : Bool). cond t (Written.Wrote (length (card_of phrase challenge k))) (Written.Refused Refusal.BufferShort))
+  answered (Ok _) e =
+      ap (λ (c : Checked). unless Err c (written_of 5148 (card_of phrase challenge k))) e
+      ∙ ap (λ (t : Bool). cond t (Ok (length (card_of phrase challenge k))) (Err Refusal.BufferShort))
       (le-leb (length (card_of phrase challenge k)) 5148 (largest_card phrase challenge k e))
-  answered (Checked.Refused why) e = ap (λ (c : Checked). unless Written.Refused c (written_of 5148 (card_of phrase challenge k))) e
+  answered (Err why) e = ap (λ (c : Checked). unless Err c (written_of 5148 (card_of phrase challenge k))) e
 
   -- the card that was written
-  pub wrote_card : (n : ℕ) (b b' : List ℕ) → Written.Wrote n ≡ card_written phrase challenge k 5148 → b'
-      ≡ leaves (Written.Wrote n) (card_of phrase challenge k) b
+  pub wrote_card : (n : ℕ) (b b' : List ℕ) → Ok n ≡ card_written phrase challenge k 5148 → b'
+      ≡ leaves (Ok n) (card_of phrase challenge k) b
       → Put (printed_card phrase challenge k) b b' n
   unfolding printed_card
   wrote_card n b b' e l = by (card_checked phrase challenge k) refl
     where
       by : (c : Checked) → card_checked phrase challenge k ≡ c → Put (printed c (card_of phrase challenge k)) b b' n
-      by Checked.Good f =
-          let same = e ∙ answered Checked.Good f in
+      by (Ok _) f =
+          let same = e ∙ answered (Ok tt) f in
           let count : n ≡ length (card_of phrase challenge k) = cc in
           (count, l)
-      by (Checked.Refused why) f =
-          let same = e ∙ answered (Checked.Refused why) f in
+      by (Err why) f =
+          let same = e ∙ answered (Err why) f in
           let z : ◌≡◌ {A = ℕ} 0 1 = cc in
           absurd (omega arith)
 
   -- the refusal that is printed in its place
-  pub refused_card : (why : Refusal) → Written.Refused why ≡ card_written phrase challenge k 5148 → refused_text why ≡ printed_card phrase challenge k
+  pub refused_card : (why : Refusal) → Err why ≡ card_written phrase challenge k 5148 → refused_text why ≡ printed_card phrase challenge k
   unfolding printed_card
   refused_card why e = by (card_checked phrase challenge k) refl
     where
       by : (c : Checked) → card_checked phrase challenge k ≡ c → refused_text why ≡ printed c (card_of phrase challenge k)
-      by Checked.Good f =
-          let same = e ∙ answered Checked.Good f in
+      by (Ok _) f =
+          let same = e ∙ answered (Ok tt) f in
           let z : ◌≡◌ {A = ℕ} 0 1 = cc in
           absurd (omega arith)
-      by (Checked.Refused other) f =
-          let same = e ∙ answered (Checked.Refused other) f in
+      by (Err other) f =
+          let same = e ∙ answered (Err other) f in
           let one : why ≡ other = cc in
           ap refused_text one
 

@@ -1,9 +1,10 @@
 -- `write_from` meets its promise: the generator's password at the lowest count, then the lines.
+use Rattle.std.specs.Prelude.{Ok, Err}
 use Prim.Native.Nat.{ℕ, ◌-◌, ◌≤◌}
 use mathlib.Core.Path.{◌≡◌, sym, ◌∙◌, subst}
 use mathlib.Core.List.{List}
 use native.Mathlib.Omega.{arith}
-use Rattle.refusal.specs.declared.Reading.{Reading}
+use Rattle.refusal.specs.Answers.{Reading}
 use Rattle.refusal.specs.declared.Refusal.{Refusal}
 use Rattle.text.specs.Put.{Writes}
 use Rattle.password.specs.Password.{password}
@@ -13,10 +14,10 @@ use Rattle.cards.proofs.Ways.{bounds, card_from}
 use Rattle.cards.proofs.write_from.Goals as goal
 use Rattle.cards.proofs.write_from.Goals.{After-password_at, Start}
 
-same_password : {p q : ℕ} → Reading.Password p ≡ Reading.Password q → p ≡ q
+same_password : {p q : ℕ} → ◌≡◌ {A = Reading} (Ok p) (Ok q) → p ≡ q
 same_password e = cc
 
-never : {A : Type 0} (why : Refusal) (p : ℕ) → Reading.Refused why ≡ Reading.Password p → A
+never : {A : Type 0} (why : Refusal) (p : ℕ) → ◌≡◌ {A = Reading} (Err why) (Ok p) → A
 never why p e = let z : ◌≡◌ {A = ℕ} 0 1 = cc in absurd (omega arith)
 
 within : (c : Start) → (1 ≤ c.args.k) × (c.args.k ≤ 99) × (c.args.k ≤ c.args.n)
@@ -24,7 +25,7 @@ within c = bounds c.args.phrase.now c.args.challenge.now c.args.k c.requires.k_v
 
 lowest : (c : After-password_at) →
     let a = c.args in
-    c.password_at.result ≡ Reading.Password (password a.algorithm a.phrase.now (seed_of a.challenge.now) (a.n - (a.k - 1)))
+    c.password_at.result ≡ Ok (password a.algorithm a.phrase.now (seed_of a.challenge.now) (a.n - (a.k - 1)))
 lowest c =
     let a = c.args in
     c.password_at.ensures
@@ -39,13 +40,13 @@ overflow_sub-low-2 c = omega (arith, within (goal.at.overflow_sub-low-2 c).Start
 pub write_walked-requires : goal.write_walked-requires
 write_walked-requires c = within (goal.at.write_walked-requires c).Start
 
-pub returns-in-Password : goal.returns-in-Password
-returns-in-Password c =
+pub returns : goal.returns
+returns c =
     let a = c.args in
     subst (λ (t : List ℕ). Writes t a.buf.now c.write_walked.new.buf c.write_walked.result)
     (card_from a.phrase.now a.challenge.now a.k a.algorithm a.n c.requires.algorithm_value c.requires.k_value.1)
     (c.write_walked.ensures a.phrase.now (seed_of a.challenge.now)
-    (same_password (sym c.in-Password.is ∙ lowest (goal.at.returns-in-Password c).After-password_at)))
+    (same_password (sym c.in_ok-p.was ∙ lowest (goal.at.returns c).After-password_at)))
 
-pub returns-in-Refused : goal.returns-in-Refused
-returns-in-Refused c = never _ _ (sym c.in-Refused.is ∙ lowest (goal.at.returns-in-Refused c).After-password_at)
+pub returns-in_err-p : goal.returns-in_err-p
+returns-in_err-p c = never _ _ (sym c.in_err-p.was ∙ lowest (goal.at.returns-in_err-p c).After-password_at)

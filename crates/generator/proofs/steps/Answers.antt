@@ -1,19 +1,14 @@
--- `steps` meets its promise: x is k counts up.
-use Prim.Native.Nat.{ℕ}
-use mathlib.Core.Path.{refl, ap, ◌∙◌}
+-- `steps` meets its promise: x is as many counts up as there were turns.
 use native.Mathlib.Numerals.{add-one}
-use native.Mathlib.Omega.{arith}
+use Rattle.std.proofs.Common.{ℕ, refl, ap, ◌∙◌}
 use Rattle.password.specs.Password.{hash, bytes_of}
 use Rattle.generator.specs.Inside.{chained}
 use Rattle.generator.proofs.steps.Goals as goal
 
-pub loop-k-init : goal.loop-k-init
+pub loop-init : goal.loop-init
 unfolding chained
-loop-k-init c = (omega arith, refl)
+loop-init c = refl
 
-pub loop-k-preserved : goal.loop-k-preserved
+pub loop-preserved : goal.loop-preserved
 unfolding chained
-loop-k-preserved c = (
-  omega arith,
-  rw add-one (c.step-x.ensures ∙ ap (λ (x : ℕ). hash c.args.algorithm (bytes_of x)) c.loop-k.invariant.1),
-)
+loop-preserved c = rw add-one (c.step-x.ensures ∙ ap (λ (x : ℕ). hash c.args.algorithm (bytes_of x)) c.loop.invariant)

@@ -1,11 +1,7 @@
--- `steps` meets its promise: x is k counts up.
-use Prim.Native.Nat.{◌-◌, ◌≤◌}
-use mathlib.Core.Path.{◌≡◌}
+-- `steps` meets its promise: x is as many counts up as there were turns.
+use Rattle.std.proofs.Common.{◌≡◌}
 use Rattle.generator.specs.Inside.{chained}
 use Rattle.generator.proofs.steps.Given as goal
 
-abbrev pub invariant-loop-k : goal.invariant-loop-k
-invariant-loop-k l = (l.k ≤ l.n) × (l.x ≡ chained l.algorithm l.k l.p)
-
-abbrev pub decreases-loop-k : goal.decreases-loop-k
-decreases-loop-k l = l.n - l.k
+abbrev pub invariant-loop : goal.invariant-loop
+invariant-loop l = l.x ≡ chained l.algorithm l.counter l.p

@@ -1,4 +1,5 @@
 -- A text read token by token.
+use Rattle.std.specs.Prelude.{ℕ, Option, Some, None}
 use Prim.Native.Nat.{ℕ, ◌+◌, ◌-◌, ◌≤◌, ◌<◌, zero-le}
 use native.Mathlib.Omega.{arith}
 use native.Mathlib.Numerals.{add-one}
@@ -14,8 +15,6 @@ use Rattle.text.specs.Kinds.{is_white, is_solid, is_letter}
 use Rattle.text.specs.Tests.{every, every_append, cases, both, second_fails}
 use Rattle.text.specs.Scan.{run_of, tokens, piece}
 use Rattle.text.specs.ScanLaws.{run_within, tokens_white, tokens_run, tokens_none, tokens_some, solid_after, piece_cons}
-use Rattle.reply.specs.declared.typed_words.Word.{Word}
-use Rattle.reply.specs.declared.typed_words.Six.{Six}
 use Rattle.reply.specs.Reply.{is_word, six_words}
 use Rattle.reply.specs.Inside.{first_token, past_token, packed_token, word_of, six_of}
 
@@ -177,11 +176,11 @@ module _ (s : List ℕ) (k at : ℕ) (ws : List ℕ) (c : Scanned s k at ws) whe
       rw (ne_eqb (length (tokens s)) 6 (λ x. omega (arith, length-drop k (tokens s), ap length c.rest)))
 
 -- what a token's answer says of it
-packed_is : (b : Bool) (x p : ℕ) → cond b (Word.Packed x) Word.Other ≡ Word.Packed p → (b ≡ true) × (x ≡ p)
+packed_is : (b : Bool) (x p : ℕ) → cond b (Some x) None ≡ Some p → (b ≡ true) × (x ≡ p)
 packed_is true x p e = (refl, cc)
 packed_is false x p e = let z : ◌≡◌ {A = ℕ} 0 1 = cc in absurd (omega arith)
 
-other_is : (b : Bool) (x : ℕ) → cond b (Word.Packed x) Word.Other ≡ Word.Other → b ≡ false
+other_is : (b : Bool) (x : ℕ) → ◌≡◌ {A = Option ℕ} (cond b (Some x) None) None → b ≡ false
 other_is true x e = let z : ◌≡◌ {A = ℕ} 0 1 = cc in absurd (omega arith)
 other_is false x e = refl
 
@@ -191,28 +190,24 @@ module _ (s : List ℕ) (k at : ℕ) (ws : List ℕ) (c : Scanned s k at ws) (w 
   pub token_within : at + w + n ≤ length s
   token_within = rw (past_first s at w n e f) (past_within s at c.within)
 
-  module _ (r : Word) (g : r ≡ word_of (take (at + w + n - (at + w)) (drop (at + w) s))) (h : k < 6) where
+  module _ (r : Option ℕ) (g : r ≡ word_of (take (at + w + n - (at + w)) (drop (at + w) s))) (h : k < 6) where
     answer : r ≡ word_of (first_token (drop at s))
     answer = g ∙ ap word_of (part_first s at w n e f)
 
-    pub turned : (p : ℕ) → r ≡ Word.Packed p → Scanned s (k + 1) (at + w + n) (set ws k p)
+    pub turned : (p : ℕ) → r ≡ Some p → Scanned s (k + 1) (at + w + n) (set ws k p)
     turned p q =
         let t = first_token (drop at s) in
         let is = packed_is (is_word t) (packed_token t) p (sym answer ∙ q) in
         rw (past_first s at w n e f, ← is.1) (word_more s k at ws c is.0 h)
 
-    pub stopped : r ≡ Word.Other → six_words (tokens s) ≡ false
+    pub stopped : r ≡ None → six_words (tokens s) ≡ false
     stopped q =
         let t = first_token (drop at s) in
         word_missing s k at ws c (other_is (is_word t) (packed_token t) (sym answer ∙ q)) h
 
 -- the answer on the whole
-abbrev pub six_is : Bool → List ℕ → Six
-six_is b ws = record { are = b; words = ws }
+pub none_six : (s : List ℕ) → six_words (tokens s) ≡ false → None ≡ six_of (tokens s)
+none_six s e = sym (ap (λ (b : Bool). cond b (Some (map packed_token (tokens s))) None) e)
 
-pub none_six : (s : List ℕ) → six_words (tokens s) ≡ false → six_is false (replicate 6 0) ≡ six_of (tokens s)
-none_six s e = sym (ap (λ (b : Bool). cond b (six_is true (map packed_token (tokens s))) (six_is false (replicate 6 0))) e)
-
-pub all_six : (s ws : List ℕ) → (six_words (tokens s) ≡ true) × (ws ≡ map packed_token (tokens s)) → six_is true ws ≡ six_of (tokens s)
-all_six s ws e =
-    ap (six_is true) e.1 ∙ sym (ap (λ (b : Bool). cond b (six_is true (map packed_token (tokens s))) (six_is false (replicate 6 0))) e.0)
+pub all_six : (s ws : List ℕ) → (six_words (tokens s) ≡ true) × (ws ≡ map packed_token (tokens s)) → Some ws ≡ six_of (tokens s)
+all_six s ws e = ap Some e.1 ∙ sym (ap (λ (b : Bool). cond b (Some (map packed_token (tokens s))) None) e.0)

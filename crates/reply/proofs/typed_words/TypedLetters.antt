@@ -1,7 +1,8 @@
 -- A token read letter by letter.
+use Rattle.std.specs.Prelude.{Some, None}
 use Prim.Native.Nat.{ℕ, ◌+◌, ◌*◌, ◌-◌, ◌^◌, ◌≤◌, ◌<◌}
 use native.Mathlib.Omega.{arith}
-use native.Mathlib.Nat.{mul-one, pow-suc, pow-le-pow_right, lt_of_lt_of_le}
+use native.Mathlib.Nat.{pow-suc}
 use native.Mathlib.Numerals.{add-one}
 use mathlib.Core.Path.{◌≡◌, refl, sym, ◌∙◌, ap, ap₂}
 use mathlib.Core.Bool.{Bool, true, false, cond, ◌&&◌}
@@ -14,28 +15,12 @@ use borrow.Author.Tests.{le-leb, lt-leb, leb-true}
 use Rattle.text.specs.Kinds.{is_upper, is_lower, is_letter, lower_of, upper_of}
 use Rattle.text.specs.Tests.{every, second_fails, cases, both}
 use Rattle.dictionary.specs.Dictionary.{number_from, packed}
-use Rattle.reply.specs.declared.typed_words.Word.{Word}
 use Rattle.reply.specs.Reply.{is_word, upper_text}
 use Rattle.reply.specs.Inside.{packed_token, word_of}
-
--- zeros up to three letters
-pub one_filled : (w n : ℕ) → n ≡ 1 → w < 256 ^ n → (w < 256) × (w * 65536 ≡ w * 256 ^ (3 - n))
-one_filled w n e h = (rw e at h, ap (λ (k : ℕ). w * 256 ^ (3 - k)) (sym e))
-
-pub two_filled : (w n : ℕ) → n ≡ 2 → w < 256 ^ n → (w < 65536) × (w * 256 ≡ w * 256 ^ (3 - n))
-two_filled w n e h = (rw e at h, ap (λ (k : ℕ). w * 256 ^ (3 - k)) (sym e))
-
-pub rest_filled : (w n : ℕ) → 3 ≤ n → w ≡ w * 256 ^ (3 - n)
-rest_filled w n h =
-    let none : 3 - n ≡ 0 = omega arith in
-    sym (ap (λ (k : ℕ). w * 256 ^ k) none ∙ mul-one w)
 
 -- one letter more
 pub letter_grows : (v u i : ℕ) → v < 256 ^ i → u < 256 → v * 256 + u < 256 ^ (i + 1)
 letter_grows v u i h g = rw (add-one, pow-suc) (digits_lt h g)
-
-pub four_fit : (v i : ℕ) → v < 256 ^ i → i ≤ 4 → v < 2 ^ 32
-four_fit v i h g = lt_of_lt_of_le h (pow-le-pow_right {n = 256} (omega arith) g)
 
 pub other_byte : (t : List ℕ) (i : ℕ) → i < length t → is_letter (get_or t i 0) ≡ false → every is_letter (drop i t) ≡ false
 unfolding every
@@ -77,23 +62,23 @@ letter_upper b e = cases (is_upper b) upper lower
         rw (f, small) (from, refl)
 
 -- what a token is
-pub empty_other : (t : List ℕ) → length t ≡ 0 → Word.Other ≡ word_of t
+pub empty_other : (t : List ℕ) → length t ≡ 0 → None ≡ word_of t
 unfolding is_word
 empty_other t h = rw h
 
-pub long_other : (t : List ℕ) → 4 < length t → Word.Other ≡ word_of t
+pub long_other : (t : List ℕ) → 4 < length t → None ≡ word_of t
 unfolding is_word
 long_other t h = rw (le-leb 1 (length t) (omega arith), lt-leb (length t) 4 h)
 
-pub mixed_other : (t : List ℕ) → every is_letter t ≡ false → Word.Other ≡ word_of t
+pub mixed_other : (t : List ℕ) → every is_letter t ≡ false → None ≡ word_of t
 unfolding is_word
-mixed_other t e = ap (λ (b : Bool). cond b (Word.Packed (packed_token t)) Word.Other)
+mixed_other t e = ap (λ (b : Bool). cond b (Some (packed_token t)) None)
     (sym (second_fails (leb 1 (length t) && leb (length t) 4) (every is_letter t) e))
 
 pub letters_word : (t : List ℕ) (v p : ℕ) → 0 < length t → length t ≤ 4 → every is_letter t ≡ true
-    → v ≡ number_from 0 (upper_text t) → p ≡ v * 256 ^ (3 - length t) → Word.Packed p ≡ word_of t
+    → v ≡ number_from 0 (upper_text t) → p ≡ v * 256 ^ (3 - length t) → Some p ≡ word_of t
 unfolding is_word packed
-letters_word t v p some few e number filled = rw (le-leb 1 (length t) some, le-leb (length t) 4 few, e) (ap Word.Packed same)
+letters_word t v p some few e number filled = rw (le-leb 1 (length t) some, le-leb (length t) 4 few, e) (ap Some same)
   where
     same : p ≡ packed_token t
     same = filled ∙ ap₂ (λ (m k : ℕ). m * 256 ^ (3 - k)) number (sym (length-map t upper_of))

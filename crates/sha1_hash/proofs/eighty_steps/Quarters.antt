@@ -2,24 +2,19 @@
 use Prim.Native.Nat.{ℕ, ◌+◌, ◌/◌}
 use mathlib.Core.Path.{◌≡◌, ap, ap₂, sym, ◌∙◌}
 use mathlib.Core.List.{List}
-use borrow.Author.Tests.{ne_eqb}
 use Rattle.digests.specs.declared.FiveWords.{FiveWords}
 use Rattle.digests.specs.Sha1.{step_with}
 use Rattle.block.specs.declared.by_four.Four.{Four}
 use Rattle.block.specs.ByFour.{four_at}
-use Rattle.sha1_hash.specs.Inside.{function_of, constant_of, step_of, four_of, sixteen_of}
+use Rattle.sha1_hash.specs.declared.eighty_steps.Quarter.{Quarter}
+use Rattle.sha1_hash.specs.Inside.{number, function_of, constant_of, step_of, four_of, sixteen_of}
 
--- A step with the value x of quarter q's function and its constant is one of quarter n, where n is q.
-pub of_quarter : (q n w x : ℕ) (v p : FiveWords) → step_of n w v ≡ step_of q w v
-    → x ≡ function_of q v.b v.c v.d → p ≡ step_with x (constant_of q) w v → p ≡ step_of n w v
+-- A step with the value x of the function of quarter q, and its constant, is one of quarter r, where r is q.
+pub of_quarter : (q r : Quarter) (w x : ℕ) (v p : FiveWords) → r ≡ q
+    → x ≡ function_of (number q) v.b v.c v.d → p ≡ step_with x (constant_of (number q)) w v → p ≡ step_of (number r) w v
 unfolding step_of
-of_quarter q n w x v p e g h = h ∙ ap (λ (y : ℕ). step_with y (constant_of q) w v) g ∙ sym e
-
--- Every number from 3 on is the last quarter's.
-pub last_quarter : (n w : ℕ) (v : FiveWords) → (n ≡ 0 → ⊥) → (n ≡ 1 → ⊥) → (n ≡ 2 → ⊥)
-    → step_of n w v ≡ step_of 3 w v
-unfolding step_of
-last_quarter n w v h₀ h₁ h₂ = simp (ne_eqb n 0 h₀, ne_eqb n 1 h₁, ne_eqb n 2 h₂)
+of_quarter q r w x v p e g h =
+    h ∙ ap (λ (y : ℕ). step_with y (constant_of (number q)) w v) g ∙ sym (ap (λ (n : Quarter). step_of (number n) w v) e)
 
 -- Four steps, each on what the one before left.
 pub four_steps : (n : ℕ) (w : Four) (v₀ v₁ v₂ v₃ v₄ : FiveWords)

@@ -1,45 +1,77 @@
--- The letters of a packed word, one by one.
-use Prim.Native.Nat.{ℕ, ◌/◌, ◌%◌, ◌^◌, ◌≤◌, ◌<◌}
-use native.Mathlib.Omega.{arith}
-use mathlib.Core.Path.{◌≡◌, refl, ap}
-use mathlib.Core.List.{List, [], ◌∷◌, map}
-use lib.Dec.{eqb, ltb}
-use lib.ListN.{length, get_or, set}
-use borrow.Author.Tests.{lt-ltb, le-ltb, eq-eqb, ne_eqb, eqb-true, eqb-false}
-use Rattle.text.specs.Tests.{either, cases}
-use Rattle.text.specs.Put.{Put}
-use Rattle.dictionary.specs.Dictionary.{packed_at, unfilled, letters_of}
-use Rattle.sixwords.specs.Laws.{Six, six}
+-- The letters among the four bytes of a packed word.
+use Rattle.std.proofs.Common.{◌≡◌, ℕ, ◌+◌, ◌*◌, ◌/◌, ◌%◌, ◌≤◌, ◌<◌, List, [], ◌∷◌, length}
+use Rattle.std.proofs.Common.{get_or, refl, ap, arith, eqb, ltb, eq-eqb, ne_eqb, lt-ltb, le-ltb, ◌^◌, ◌∙◌}
+use Rattle.text.specs.Tests.{either}
+use Rattle.std.specs.Int.{w32, to_be_bytes}
+use borrow.Rule.Slice.PartMut.{mid_of}
+use Rattle.dictionary.specs.Dictionary.{unfilled, letters_of}
 
-pub four_letters : (v : ℕ) → 16777216 ≤ v → letters_of v ≡ v / 16777216 ∷ v / 65536 % 256 ∷ v / 256 % 256 ∷ v % 256 ∷ []
+-- the number that four bytes are, the first of them most significant
+abbrev pub number_at : List ℕ → ℕ
+number_at bs = get_or bs 0 0 * 16777216 + get_or bs 1 0 * 65536 + get_or bs 2 0 * 256 + get_or bs 3 0
+
+data Four : List ℕ → Type 0 where
+  four : (a b c d : ℕ) → Four (a ∷ b ∷ c ∷ d ∷ [])
+
+four_of : (bs : List ℕ) → length bs ≡ 4 → Four bs
+four_of [] n = absurd (omega arith)
+four_of (a ∷ []) n = absurd (omega arith)
+four_of (a ∷ b ∷ []) n = absurd (omega arith)
+four_of (a ∷ b ∷ c ∷ []) n = absurd (omega arith)
+four_of (a ∷ b ∷ c ∷ d ∷ []) n = four a b c d
+four_of (a ∷ b ∷ c ∷ d ∷ e ∷ bs) n = absurd (omega arith)
+
+abbrev pub Bytes : List ℕ → Type 0
+Bytes bs = (i : ℕ) → get_or bs i 0 < 256
+
+-- what the four bytes are as a number, digit by digit
+digits : (a b c d : ℕ) → b < 256 → c < 256 → d < 256 → let v = a * 16777216 + b * 65536 + c * 256 + d in
+    (v / 16777216 ≡ a) × (v / 65536 % 256 ≡ b) × (v / 256 % 256 ≡ c) × (v % 256 ≡ d) × (a ≡ 0 → v / 65536 ≡ b) × (a ≡ 0 → v < 16777216)
+digits a b c d h i j = (omega arith, omega arith, omega arith, omega arith, λ e. omega arith, λ e. omega arith)
+
+spelt_one : (bs : List ℕ) → Four bs → Bytes bs → get_or bs 0 0 ≡ 0 → get_or bs 2 0 ≡ 0 → mid_of 1 1 bs ≡ letters_of (number_at bs)
+unfolding letters_of unfilled
+spelt_one bs (four a b c d) k e f =
+    let v = digits a b c d (k 1) (k 2) (k 3) in
+    rw (lt-ltb (number_at bs) 16777216 (v.5 e), v.2, eq-eqb c 0 f, v.4 e) refl
+
+spelt_two : (bs : List ℕ) → Four bs → Bytes bs → get_or bs 0 0 ≡ 0 → (get_or bs 2 0 ≡ 0 → ⊥) → get_or bs 3 0 ≡ 0 → mid_of 1 2 bs ≡ letters_of (number_at bs)
+unfolding letters_of unfilled
+spelt_two bs (four a b c d) k e f g =
+    let v = digits a b c d (k 1) (k 2) (k 3) in
+    rw (lt-ltb (number_at bs) 16777216 (v.5 e), v.2, v.3, ne_eqb c 0 f, eq-eqb d 0 g, v.4 e) refl
+
+spelt_three : (bs : List ℕ) → Four bs → Bytes bs → get_or bs 0 0 ≡ 0 → (get_or bs 2 0 ≡ 0 → ⊥) → (get_or bs 3 0 ≡ 0 → ⊥)
+    → mid_of 1 3 bs ≡ letters_of (number_at bs)
+unfolding letters_of unfilled
+spelt_three bs (four a b c d) k e f g =
+    let v = digits a b c d (k 1) (k 2) (k 3) in
+    rw (lt-ltb (number_at bs) 16777216 (v.5 e), v.2, v.3, ne_eqb c 0 f, ne_eqb d 0 g, v.4 e) refl
+
+spelt_four : (bs : List ℕ) → Four bs → Bytes bs → (get_or bs 0 0 ≡ 0 → ⊥) → bs ≡ letters_of (number_at bs)
 unfolding letters_of
-four_letters v h = rw (le-ltb v 16777216 h)
+spelt_four bs (four a b c d) k e =
+    let v = digits a b c d (k 1) (k 2) (k 3) in
+    rw (le-ltb (number_at bs) 16777216 (omega arith), v.0, v.1, v.2, v.3) refl
 
-module _ (v : ℕ) (h : v < 16777216) where
-  pub one_letter : v / 256 % 256 ≡ 0 → letters_of v ≡ v / 65536 ∷ []
-  unfolding letters_of unfilled
-  one_letter e = rw (lt-ltb v 16777216 h, eq-eqb (v / 256 % 256) 0 e)
+module _ (bs : List ℕ) (n : length bs ≡ 4) (k : Bytes bs) where
+  pub one_letter : get_or bs 0 0 ≡ 0 → get_or bs 2 0 ≡ 0 → mid_of 1 1 bs ≡ letters_of (number_at bs)
+  one_letter = spelt_one bs (four_of bs n) k
 
-  pub two_letters : (v / 256 % 256 ≡ 0 → ⊥) → v % 256 ≡ 0 → letters_of v ≡ v / 65536 ∷ v / 256 % 256 ∷ []
-  unfolding letters_of unfilled
-  two_letters e f = rw (lt-ltb v 16777216 h, ne_eqb (v / 256 % 256) 0 e, eq-eqb (v % 256) 0 f)
+  pub two_letters : get_or bs 0 0 ≡ 0 → (get_or bs 2 0 ≡ 0 → ⊥) → get_or bs 3 0 ≡ 0 → mid_of 1 2 bs ≡ letters_of (number_at bs)
+  two_letters = spelt_two bs (four_of bs n) k
 
-  pub three_letters : (v / 256 % 256 ≡ 0 → ⊥) → (v % 256 ≡ 0 → ⊥) → letters_of v ≡ v / 65536 ∷ v / 256 % 256 ∷ v % 256 ∷ []
-  unfolding letters_of unfilled
-  three_letters e f = rw (lt-ltb v 16777216 h, ne_eqb (v / 256 % 256) 0 e, ne_eqb (v % 256) 0 f)
+  pub three_letters : get_or bs 0 0 ≡ 0 → (get_or bs 2 0 ≡ 0 → ⊥) → (get_or bs 3 0 ≡ 0 → ⊥) → mid_of 1 3 bs ≡ letters_of (number_at bs)
+  three_letters = spelt_three bs (four_of bs n) k
 
-  pub first_letter : 1 ≤ length (letters_of v)
-  first_letter =
-      cases (eqb (v / 256 % 256) 0) (λ e. omega (arith, ap length (one_letter (eqb-true (v / 256 % 256) 0 e))))
-      (λ e. cases (eqb (v % 256) 0)
-      (λ f. omega (arith, ap length (two_letters (eqb-false (v / 256 % 256) 0 e) (eqb-true (v % 256) 0 f))))
-      (λ f. omega (arith, ap length (three_letters (eqb-false (v / 256 % 256) 0 e) (eqb-false (v % 256) 0 f)))))
+  pub four_letters : (get_or bs 0 0 ≡ 0 → ⊥) → bs ≡ letters_of (number_at bs)
+  four_letters = spelt_four bs (four_of bs n) k
 
-  pub second_letter : (v / 256 % 256 ≡ 0 → ⊥) → 2 ≤ length (letters_of v)
-  second_letter e =
-      cases (eqb (v % 256) 0) (λ f. omega (arith, ap length (two_letters e (eqb-true (v % 256) 0 f))))
-      (λ f. omega (arith, ap length (three_letters e (eqb-false (v % 256) 0 f))))
+-- so the letters among a word's bytes are the word's
+pub word_spelt : (w : ℕ) (bs l : List ℕ) → w < 2 ^ 32 → bs ≡ to_be_bytes w32 w → l ≡ letters_of (number_at bs) → l ≡ letters_of w
+word_spelt w bs l h e q = q ∙ ap letters_of (ap number_at e ∙ omega arith)
 
+-- a word has four letters at most
 pub few_letters : (v : ℕ) → length (letters_of v) ≤ 4
 unfolding letters_of unfilled
 few_letters v =
@@ -47,34 +79,3 @@ few_letters v =
     (λ e. either (λ (l : List ℕ). length l ≤ 4) (eqb (v / 256 % 256) 0) (λ f. omega arith)
     (λ f. either (λ (l : List ℕ). length l ≤ 4) (eqb (v % 256) 0) (λ g. omega arith) (λ g. omega arith)))
     (λ e. omega arith)
-
--- bytes stored one after the other from the front
-put_to : (t u b b' : List ℕ) (n : ℕ) → t ≡ u → Put u b b' n → Put t b b' n
-put_to t u b b' n e p = rw e p
-
-pub put_one : (t b : List ℕ) (w : ℕ) → t ≡ w ∷ [] → 1 ≤ length b → Put t b (set b 0 w) 1
-put_one t [] w e h = absurd (omega arith)
-put_one t (a ∷ b) w e h = put_to t (w ∷ []) (a ∷ b) (w ∷ b) 1 e (refl, refl)
-
-pub put_two : (t b : List ℕ) (w x : ℕ) → t ≡ w ∷ x ∷ [] → 2 ≤ length b → Put t b (set (set b 0 w) 1 x) 2
-put_two t [] w x e h = absurd (omega arith)
-put_two t (a ∷ []) w x e h = absurd (omega arith)
-put_two t (a ∷ c ∷ b) w x e h = put_to t (w ∷ x ∷ []) (a ∷ c ∷ b) (w ∷ x ∷ b) 2 e (refl, refl)
-
-pub put_three : (t b : List ℕ) (w x y : ℕ) → t ≡ w ∷ x ∷ y ∷ [] → 3 ≤ length b → Put t b (set (set (set b 0 w) 1 x) 2 y) 3
-put_three t [] w x y e h = absurd (omega arith)
-put_three t (a ∷ []) w x y e h = absurd (omega arith)
-put_three t (a ∷ c ∷ []) w x y e h = absurd (omega arith)
-put_three t (a ∷ c ∷ d ∷ b) w x y e h = put_to t (w ∷ x ∷ y ∷ []) (a ∷ c ∷ d ∷ b) (w ∷ x ∷ y ∷ b) 3 e (refl, refl)
-
-pub put_four : (t b : List ℕ) (w x y z : ℕ) → t ≡ w ∷ x ∷ y ∷ z ∷ [] → 4 ≤ length b → Put t b (set (set (set (set b 0 w) 1 x) 2 y) 3 z) 4
-put_four t [] w x y z e h = absurd (omega arith)
-put_four t (a ∷ []) w x y z e h = absurd (omega arith)
-put_four t (a ∷ c ∷ []) w x y z e h = absurd (omega arith)
-put_four t (a ∷ c ∷ d ∷ []) w x y z e h = absurd (omega arith)
-put_four t (a ∷ c ∷ d ∷ f ∷ b) w x y z e h = put_to t (w ∷ x ∷ y ∷ z ∷ []) (a ∷ c ∷ d ∷ f ∷ b) (w ∷ x ∷ y ∷ z ∷ b) 4 e (refl, refl)
-
--- the packed words at six places
-pub words_at : (ps : List ℕ) → Six ps → (a b c d e f : ℕ) → a ≡ packed_at (get_or ps 0 0) → b ≡ packed_at (get_or ps 1 0) → c ≡ packed_at (get_or ps 2 0) →
-    d ≡ packed_at (get_or ps 3 0) → e ≡ packed_at (get_or ps 4 0) → f ≡ packed_at (get_or ps 5 0) → a ∷ b ∷ c ∷ d ∷ e ∷ f ∷ [] ≡ map packed_at ps
-words_at ps (six s t u v w x) a b c d e f p q r l m n = λ i. p i ∷ q i ∷ r i ∷ l i ∷ m i ∷ n i ∷ []

@@ -1,13 +1,13 @@
 -- `offer_renewal` meets its promise: what the turn becomes, put back beside the older seeds, is the written step.
+use Rattle.std.specs.Prelude.{Ok}
 use Prim.Native.Nat.{◌<◌}
 use mathlib.Core.Path.{◌≡◌, sym, ap, ◌∙◌}
 use borrow.Author.Rules.{rules}
 use borrow.Author.Tests.{ltb-true}
 use native.Mathlib.Omega.{arith}
 use lib.ListN.{length}
-use Rattle.refusal.specs.declared.Checked.{Checked}
 use Rattle.line.specs.Laws.{unmapped}
-use Rattle.table.specs.declared.Replied.{Replied}
+use Rattle.table.specs.Answers.{Replied}
 use Rattle.table.specs.Table.{view, stands_at}
 use Rattle.table.specs.Steps.{After}
 use Rattle.table.specs.StepLaws.{turn_passed}
@@ -15,15 +15,12 @@ use Rattle.table.specs.ViewLaws.{rooms-32}
 use Rattle.turns.specs.TurnPart.{Seen, Said, outcome, after, renewed}
 use Rattle.turns.specs.TurnPartLaws.{after_elsewhere, after_renewal}
 use Rattle.turns.proofs.offer_renewal.Goals as goal
-use Rattle.turns.proofs.offer_renewal.Goals.{After-renewed-arg-1, After-turn_of, Start}
+use Rattle.turns.proofs.offer_renewal.Goals.{After-turn_of, Start}
 
 all_rooms : (c : Start) → length c.args.table.rooms ≡ 32
 all_rooms c = search (rules, unmapped)
 
-all_older : (c : After-renewed-arg-1) → length c.args.older.now ≡ 3808
-all_older c = search rules
-
-inside : (c : After-turn_of) → c.turn_of.result.checked ≡ Checked.Good → c.turn_of.result.place < 32
+inside : (c : After-turn_of) → c.turn_of.result.checked ≡ Ok tt → c.turn_of.result.place < 32
 inside c good =
     let a = c.args in
     let s = view a.table a.older.now in
@@ -38,12 +35,7 @@ inside c good =
     )
 
 pub renewed-made-requires : goal.renewed-made-requires
-renewed-made-requires c =
-    record {
-      place_bound = inside (goal.at.renewed-made-requires c).After-turn_of;
-      older_len = all_older
-          (goal.at.renewed-made-requires c).After-renewed-arg-1;
-    }
+renewed-made-requires c = record { place_bound = inside (goal.at.renewed-made-requires c).After-turn_of }
 
 pub returns : goal.returns
 returns c =

@@ -2,7 +2,7 @@
 use Rattle.std.proofs.Common.{◌≡◌, sym, ap, ◌∙◌, ℕ, Bool, cond, List, set}
 use Rattle.line.specs.Line.{left}
 use Rattle.accounts.specs.Rooms.{part_of, room_of}
-use Rattle.table.specs.declared.Replied.{Replied}
+use Rattle.table.specs.Answers.{Replied}
 use Rattle.table.specs.Table.{State, view, with_account, with_port, each_line}
 use Rattle.table.specs.ViewLaws.{lines_changed}
 use Rattle.table.specs.Steps.{After, leaves}

@@ -1,20 +1,24 @@
 -- `check_values` meets its promise: Enrol's checks, and the seeds that are remembered.
-use mathlib.Core.Path.{◌≡◌, refl, sym, ap₂, ◌∙◌}
-use Rattle.refusal.specs.declared.Checked.{Checked}
-use Rattle.refusal.specs.Checks.{unless}
+use Rattle.std.specs.Prelude.{Err}
+use Rattle.std.proofs.Common.{sym, ◌∙◌}
+use Rattle.refusal.specs.Laws.{first_refused, first_good, passed_on}
 use Rattle.accounts.specs.Rooms.{part_of, room_of}
+use Rattle.accounts.specs.Accounts.{seed_other, new_checked}
 use Rattle.accounts.proofs.values.Good.{then_other}
 use Rattle.accounts.proofs.values.check_values.Goals as goal
 
-two : (first second : Checked) → unless Checked.Refused first (unless Checked.Refused second Checked.Good) ≡ unless Checked.Refused first second
-two (Checked.Refused why) second = refl
-two Checked.Good Checked.Good = refl
-two Checked.Good (Checked.Refused why) = refl
+pub returns-in_err-check_new : goal.returns-in_err-check_new
+returns-in_err-check_new c =
+    let a = c.args in
+    let present = room_of a.present (part_of a.older.now a.room) in
+    passed_on _ _ c.from_residual.ensures.1
+    ∙ first_refused Err (new_checked a.algorithm a.count a.seed.now) _ (seed_other a.seed.now present) (sym c.check_new.ensures ∙ c.in_err-check_new.was)
+    ∙ sym (then_other a.algorithm a.count a.seed.now present)
 
 pub returns : goal.returns
 returns c =
     let a = c.args in
-    c.in_order.ensures
-    ∙ two c.check_new-new.result c.check_other-other.result
-    ∙ ap₂ (unless Checked.Refused) c.check_new-new.ensures c.check_other-other.ensures
-    ∙ sym (then_other a.algorithm a.count a.seed.now (room_of a.present (part_of a.older.now a.room)))
+    let present = room_of a.present (part_of a.older.now a.room) in
+    c.check_other.ensures
+    ∙ first_good Err (new_checked a.algorithm a.count a.seed.now) (seed_other a.seed.now present) (sym c.check_new.ensures ∙ c.in_ok-check_new.was)
+    ∙ sym (then_other a.algorithm a.count a.seed.now present)

@@ -1,13 +1,10 @@
--- `put_lines` meets its promise. The loop's invariant: the first `i` lines stand at the front.
-use Prim.Native.Nat.{◌-◌, ◌≤◌}
-use mathlib.Core.Path.{◌≡◌}
-use lib.ListN.{length}
+-- `put_lines` meets its promise. The loop's invariant: the lines so far stand at the front, and `count` is that of the next.
+use Rattle.std.proofs.Common.{◌≡◌, ◌+◌}
 use Rattle.text.specs.Put.{Put}
-use Rattle.cards.specs.CardLines.{card_text, at as password_at}
+use Rattle.cards.specs.CardLines.{card_text, at}
 use Rattle.cards.proofs.card_lines.put_lines.Given as goal
 
-abbrev pub invariant-loop-i : goal.invariant-loop-i
-invariant-loop-i l = (l.i ≤ l.k) × (length l.buf ≡ length l.initial.buf) × Put (card_text (password_at l.ps l.n) l.n l.i) l.initial.buf l.buf l.at
-
-abbrev pub decreases-loop-i : goal.decreases-loop-i
-decreases-loop-i l = l.k - l.i
+abbrev pub invariant-loop-p : goal.invariant-loop-p
+invariant-loop-p l =
+    (l.count + l.p-index ≡ l.lines.top)
+    × Put (card_text (at l.lines.passwords.now l.lines.top) l.lines.top l.p-index) l.initial.buf l.buf l.at

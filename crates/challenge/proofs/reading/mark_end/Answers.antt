@@ -1,60 +1,30 @@
 -- `mark_end` meets its promise: whether the token after the seed is the mark, and ended as a seed is.
-use Prim.Native.Nat.{ℕ, ◌+◌, ◌≤◌}
-use mathlib.Core.Path.{◌≡◌, sym, ◌∙◌, ap, ap₂}
-use mathlib.Core.Bool.{Bool, ◌&&◌}
-use mathlib.Core.List.{List}
-use native.Mathlib.Omega.{arith}
-use lib.ListN.{length, drop}
+use Rattle.std.proofs.Common.{◌≡◌, ap, ap₂, sym, ◌∙◌, Bool, ◌&&◌, ℕ, List, Bor, drop, Some}
 use Rattle.challenge.specs.Challenges.{token_at, end_of, terminated, is_mark, mark_at, has_mark}
 use Rattle.challenge.specs.Inside.{mark_end}
-use Rattle.challenge.specs.Laws.{next_within, token_within}
 use Rattle.challenge.proofs.reading.mark_end.Goals as goal
-use Rattle.challenge.proofs.reading.mark_end.Goals.{After-is_terminated, After-next-mark, After-token-said}
+use Rattle.challenge.proofs.reading.mark_end.Goals.{After-end-end, After-is_terminated}
 
-mark_within : (c : After-next-mark) → c.next-mark.result ≤ length c.args.text.now
-mark_within c = omega (arith, c.next-mark.ensures, next_within c.args.text.now c.args.start c.requires)
+ends : (c : After-end-end) → c.end-end.result.at ≡ end_of c.args.start.text.now (mark_at c.args.start.text.now c.args.start.at)
+ends c =
+    c.end-end.ensures.1 ∙ ap₂ (λ (t : Bor (List ℕ)) (k : ℕ). end_of t.now k) c.next-mark.ensures.0 c.next-mark.ensures.1
 
-said : (c : After-token-said) → c.token-said.result.now ≡ token_at c.args.text.now (mark_at c.args.text.now c.args.start)
-said c = c.token-said.ensures ∙ ap (token_at c.args.text.now) c.next-mark.ensures
-
-ends : (c : After-token-said) → c.next-mark.result + length c.token-said.result.now ≡ end_of c.args.text.now (mark_at c.args.text.now c.args.start)
-ends c = ap₂ (λ (k : ℕ) (t : List ℕ). k + length t) c.next-mark.ensures (said c)
-
-end_within : (c : After-token-said) → c.next-mark.result + length c.token-said.result.now ≤ length c.args.text.now
-end_within c = omega (
-  arith,
-  ap length c.token-said.ensures,
-  token_within c.args.text.now c.next-mark.result
-      (let mark_within : c.next-mark.result ≤ length c.args.text.now = omega
-      (arith, c.next-mark.ensures, next_within c.args.text.now c.args.start c.requires) in mark_within),
-)
-
-flag : (c : After-is_terminated)
-    → (c.is_mark.result && c.is_terminated.result) ≡ has_mark c.args.text.now c.args.start
+flag : (c : After-is_terminated) → (c.is_mark.result && c.is_terminated.result) ≡ has_mark c.args.start.text.now c.args.start.at
 unfolding has_mark
 flag c =
+    let next = c.next-mark.ensures in
     ap₂ (λ (a b : Bool). a && b)
-    (c.is_mark.ensures ∙ ap is_mark
-    (let said : c.token-said.result.now ≡ token_at c.args.text.now (mark_at c.args.text.now c.args.start) = c.token-said.ensures
-    ∙ ap (token_at c.args.text.now) c.next-mark.ensures in said))
+    (c.is_mark.ensures ∙ ap is_mark (c.token.ensures ∙ ap₂ (λ (t : Bor (List ℕ)) (k : ℕ). token_at t.now k) next.0 next.1))
     (c.is_terminated.ensures
-    ∙ ap (λ (k : ℕ). terminated (drop k c.args.text.now))
-    (let ends : c.next-mark.result + length c.token-said.result.now
-    ≡ end_of c.args.text.now (mark_at c.args.text.now c.args.start) = ap₂ (λ (k : ℕ) (t : List ℕ). k + length t) c.next-mark.ensures
-    (let said : c.token-said.result.now ≡ token_at c.args.text.now (mark_at c.args.text.now c.args.start) = c.token-said.ensures
-    ∙ ap (token_at c.args.text.now) c.next-mark.ensures in said) in ends))
-
-pub token-said-requires : goal.token-said-requires
-token-said-requires c = mark_within (goal.at.token-said-requires c).After-next-mark
-
-pub overflow_add-end : goal.overflow_add-end
-overflow_add-end c = omega (arith, end_within (goal.at.overflow_add-end c).After-token-said)
+    ∙ ap₂ (λ (t : Bor (List ℕ)) (k : ℕ). terminated (drop k t.now)) (c.end-end.ensures.0 ∙ next.0)
+    (c.end-end.ensures.1 ∙ ap₂ (λ (t : Bor (List ℕ)) (k : ℕ). end_of t.now k) next.0 next.1))
 
 pub returns-then-is_mark-is_terminated : goal.returns-then-is_mark-is_terminated
 unfolding mark_end
-returns-then-is_mark-is_terminated c = rw (sym (flag (goal.at.returns-then-is_mark-is_terminated c).After-is_terminated) ∙ c.if-is_mark-is_terminated.true)
-    (ends (goal.at.returns-then-is_mark-is_terminated c).After-token-said)
+returns-then-is_mark-is_terminated c =
+    rw (sym (flag (goal.at.returns-then-is_mark-is_terminated c).After-is_terminated) ∙ c.if-is_mark-is_terminated.true)
+    (ap Some (ends (goal.at.returns-then-is_mark-is_terminated c).After-end-end))
 
-pub returns : goal.returns
+pub returns-else-is_mark-is_terminated : goal.returns-else-is_mark-is_terminated
 unfolding mark_end
-returns c = rw (sym (flag (goal.at.returns c).After-is_terminated) ∙ c.if-is_mark-is_terminated.false)
+returns-else-is_mark-is_terminated c = rw (sym (flag (goal.at.returns-else-is_mark-is_terminated c).After-is_terminated) ∙ c.if-is_mark-is_terminated.false)

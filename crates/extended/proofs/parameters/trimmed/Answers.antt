@@ -1,53 +1,28 @@
--- `trimmed` meets its promise. The loop's invariant: what lies past n is white space, so that the first n bytes have the same last solid one.
-use Prim.Native.Nat.{ℕ, suc, ◌≤◌, ◌<◌, ◌-◌}
-use mathlib.Core.Path.{◌≡◌, sym, ◌∙◌, ap}
-use mathlib.Core.Bool.{Bool, true, false, ◌&&◌}
-use mathlib.Core.List.{List, [], ◌∷◌, ◌++◌}
-use native.Mathlib.Omega.{arith}
-use lib.ListN.{length, get_or, take}
-use lib.Seq.{take-suc, length-take-le}
+-- `trimmed` meets its promise: past the last byte that is solid all is white.
+use Rattle.std.proofs.Common.{◌≡◌, ℕ, suc, ◌+◌, ◌<◌, true, false, List, [], length, get_or}
+use Rattle.std.proofs.Common.{take, drop, sym, ◌∙◌, ap, arith, take-suc, take-append-drop, length-take-le, length-drop, get_or-drop}
 use Rattle.text.specs.Kinds.{is_white}
-use Rattle.text.specs.Tests.{every}
+use Rattle.text.specs.Tests.{every_from}
 use Rattle.extended.specs.Parameters as spec
 use Rattle.extended.specs.Laws.{trimmed_white, trimmed_solid}
 use Rattle.extended.proofs.parameters.trimmed.Goals as goal
 
-last : (s : List ℕ) (n : ℕ) → 0 < n → n ≤ length s → take n s ≡ take (n - 1) s ++ get_or s (n - 1) 0 ∷ []
-last s n h g = ap (λ (k : ℕ). take k s) {x = n} {y = suc (n - 1)} (omega arith) ∙ take-suc s (n - 1) 0 (omega arith)
-
-solid_last : (s : List ℕ) (n : ℕ) → 0 < n → n ≤ length s → is_white (get_or s (n - 1) 0) ≡ false → spec.trimmed (take n s) ≡ n
-solid_last s n h g e =
-    ap spec.trimmed (last s n h g) ∙ trimmed_solid (take (n - 1) s) (get_or s (n - 1) 0) e
-    ∙ omega (arith, length-take-le (n - 1) s (omega arith))
-
-white_alone : (b : ℕ) → is_white b ≡ true → every is_white (b ∷ []) ≡ true
-unfolding every
-white_alone b e = ap (λ (k : Bool). k && true) e
-
-white_last : (s : List ℕ) (n : ℕ) → 0 < n → n ≤ length s → is_white (get_or s (n - 1) 0) ≡ true → spec.trimmed (take n s) ≡ spec.trimmed (take (n - 1) s)
-white_last s n h g e = ap spec.trimmed (last s n h g) ∙ trimmed_white (take (n - 1) s) (get_or s (n - 1) 0 ∷ []) (white_alone (get_or s (n - 1) 0) e)
-
-nothing : (s : List ℕ) (n : ℕ) → n ≤ 0 → spec.trimmed (take n s) ≡ 0
+none : (s : List ℕ) → ((k : ℕ) → k < length s → is_white (get_or s k 0) ≡ true) → spec.trimmed s ≡ 0
 unfolding spec.trimmed
-nothing s n h = ap (λ (k : ℕ). spec.trimmed (take k s)) {x = n} {y = 0} (omega arith)
+none s h = trimmed_white [] s (every_from is_white s h)
 
-pub returns-then-not-is_white : goal.returns-then-not-is_white
-returns-then-not-is_white c =
-    let at = c.loop-n in
-    let s = c.args.s.now in
-    let solid = solid_last s at.n c.loop-n-test.true at.invariant.0 (sym c.is_white.ensures ∙ c.if-not-is_white.true) in
-    (sym (at.invariant.1 ∙ solid), at.invariant.0)
+upto : (s : List ℕ) (i : ℕ) → i < length s → is_white (get_or s i 0) ≡ false
+    → ((k : ℕ) → i < k → k < length s → is_white (get_or s k 0) ≡ true) → spec.trimmed s ≡ i + 1
+upto s i h e w =
+    ap spec.trimmed (sym (take-append-drop (suc i) s))
+    ∙ trimmed_white (take (suc i) s) (drop (suc i) s) (every_from is_white (drop (suc i) s) (λ k l.
+    ap is_white (get_or-drop (suc i) s k 0) ∙ w (suc i + k) (omega arith) (omega (arith, length-drop (suc i) s))))
+    ∙ ap spec.trimmed (take-suc s i 0 h) ∙ trimmed_solid (take i s) (get_or s i 0) e ∙ omega (arith, length-take-le i s (omega arith))
 
-pub loop-n-preserved : goal.loop-n-preserved
-loop-n-preserved c =
-    let at = c.loop-n in
-    let s = c.args.s.now in (
-      omega (arith, at.invariant.0),
-      at.invariant.1 ∙ white_last s at.n c.loop-n-test.true at.invariant.0 (sym c.is_white.ensures ∙ c.if-not-is_white.false),
-    )
+pub returns-in-Some : goal.returns-in-Some
+returns-in-Some c =
+    let e = c.in-Some.ensures in
+    (sym (upto c.args.s.now c.in-Some.last e.0 e.1 e.2), omega (arith, e.0))
 
-pub returns : goal.returns
-returns c =
-    let at = c.loop-n in
-    let s = c.args.s.now in
-    (sym (at.invariant.1 ∙ nothing s at.n c.loop-n-test.false), omega arith)
+pub returns-in-None : goal.returns-in-None
+returns-in-None c = (sym (none c.args.s.now c.in-None.ensures), omega arith)

@@ -1,15 +1,17 @@
 -- `typed_in` meets its promise: by whether the type is a renewal's.
+use Rattle.std.specs.Prelude.{Result}
 use Prim.Native.Nat.{ℕ}
 use mathlib.Core.Path.{sym, ◌∙◌, ap}
 use mathlib.Core.Bool.{Bool, cond}
 use mathlib.Core.List.{List}
-use Rattle.refusal.specs.declared.Reading.{Reading}
+use Rattle.refusal.specs.Answers.{Reading}
 use Rattle.extended.specs.declared.reply_types.ReplyType.{ReplyType}
 use Rattle.extended.specs.declared.reply_texts.ReplyText.{ReplyText}
 use Rattle.extended.specs.ReplyTexts.{part_at, present_at, password_by, Said, renewal_in, typed_in, read_to}
 use Rattle.extended.proofs.reply_texts.typed_in.Goals as goal
+use Rattle.refusal.specs.declared.Refusal.{Refusal}
 
-abbrev by : ReplyType → List ℕ → Bool → ReplyText
+abbrev by : ReplyType → List ℕ → Bool → Result ReplyText Refusal
 by kind t init = read_to (cond init (renewal_in kind t) (Said.Login (password_by kind (part_at t (present_at t)))))
 
 pub returns-then-is_init : goal.returns-then-is_init

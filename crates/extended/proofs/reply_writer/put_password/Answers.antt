@@ -1,10 +1,11 @@
 -- `put_password` meets its promise: hex or words are written, as the type has it, and where there is room nothing is refused.
+use Rattle.std.specs.Prelude.{Ok, Err}
 use Prim.Native.Nat.{ℕ, ◌≤◌}
 use mathlib.Core.Path.{◌≡◌, refl, sym, ◌∙◌, ap, subst}
 use mathlib.Core.List.{List}
 use native.Mathlib.Omega.{arith}
 use lib.ListN.{length}
-use Rattle.refusal.specs.declared.Written.{Written}
+use Rattle.refusal.specs.Answers.{Written}
 use Rattle.text.specs.Put.{Writes, leaves}
 use Rattle.text.specs.PutLaws.{has_room, length_front, wrote_put}
 use Rattle.extended.specs.ReplyWriting.{password_text}
@@ -30,8 +31,8 @@ written c =
     ]
 
 long : (r : Written) (t b : List ℕ) → length t ≤ length b → length (leaves r t b) ≡ length b
-long (Written.Wrote n) t b h = length_front t b h
-long (Written.Refused why) t b h = refl
+long (Ok n) t b h = length_front t b h
+long (Err why) t b h = refl
 
 as_long : (c : Joined-is_hex) → length c.if-is_hex.buf ≡ length c.args.buf.now
 as_long c =
@@ -50,4 +51,4 @@ returns c =
     let a = c.args in
     let text = password_text a.kind a.password in
     wrote_put text a.buf.now _ _
-    (subst (Writes text a.buf.now c.if-is_hex.buf) c.in-Wrote.is (written (goal.at.returns c).Joined-is_hex))
+    (subst (Writes text a.buf.now c.if-is_hex.buf) c.in-Ok.is (written (goal.at.returns c).Joined-is_hex))

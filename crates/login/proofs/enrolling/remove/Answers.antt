@@ -6,7 +6,7 @@ use mathlib.Core.List.{List, [], ◌∷◌}
 use lib.Dec.{eqb}
 use lib.ListN.{get_or, set}
 use Rattle.refusal.specs.declared.Refusal.{Refusal}
-use Rattle.refusal.specs.declared.Checked.{Checked}
+use Rattle.refusal.specs.Answers.{Checked}
 use Rattle.refusal.specs.Checks.{must, unless}
 use Rattle.line.specs.Line.{Waiting, empty}
 use Rattle.accounts.specs.Rooms.{free}
@@ -33,12 +33,12 @@ checked c older =
 abbrev by_check : ℕ → State → Checked → After Checked
 by_check id s check = unless (refused s) check (done (with_room (place_of id s.rooms) free_room s))
 
-pub returns-in-Refused : goal.returns-in-Refused
+pub returns-in-Err : goal.returns-in-Err
 unfolding remove
-returns-in-Refused c older =
+returns-in-Err c older =
     let s = view c.args.table older in
-    ap (λ (k : Checked). record { answer = k; state = s }) c.in-Refused.is
-    ∙ sym (ap (by_check c.args.id s) (sym (checked (goal.at.returns-in-Refused c).After-check_remove-answer older) ∙ c.in-Refused.is))
+    ap (λ (k : Checked). record { answer = k; state = s }) c.in-Err.is
+    ∙ sym (ap (by_check c.args.id s) (sym (checked (goal.at.returns-in-Err c).After-check_remove-answer older) ∙ c.in-Err.is))
 
 pub returns : goal.returns
 unfolding remove

@@ -9,7 +9,7 @@ use native.Mathlib.Omega.{arith}
 use lib.Dec.{eqb, leb, ltb}
 use lib.ListN.{length}
 use lib.Seq.{set_out}
-use Rattle.refusal.specs.declared.Checked.{Checked}
+use Rattle.refusal.specs.Answers.{Checked}
 use Rattle.refusal.specs.Checks.{in_order}
 use Rattle.line.specs.declared.Lines.{Lines}
 use Rattle.line.specs.Line.{Waiting, waiting, waiting_in, into, joined, joined_in}
@@ -65,11 +65,11 @@ checked c older =
     ∙ ap (λ (there : Bool). in_order (join_checks (leb a.port 3) there (not (waits a.port s)) (eqb (port_of a.port s).shut 0)
     (ltb 1 (account_of a.id s).count))) (account_there_lem a.id s.rooms)
 
-pub returns-in-Refused : goal.returns-in-Refused
-returns-in-Refused c older =
+pub returns-in-Err : goal.returns-in-Err
+returns-in-Err c older =
     let s = view c.args.table older in
-    ap (λ (k : Checked). record { answer = k; state = s }) c.in-Refused.is
-    ∙ sym (join-refused _ _ s _ (sym (checked (goal.at.returns-in-Refused c).After-check_join-answer older) ∙ c.in-Refused.is))
+    ap (λ (k : Checked). record { answer = k; state = s }) c.in-Err.is
+    ∙ sym (join-refused _ _ s _ (sym (checked (goal.at.returns-in-Err c).After-check_join-answer older) ∙ c.in-Err.is))
 
 pub returns : goal.returns
 unfolding joins

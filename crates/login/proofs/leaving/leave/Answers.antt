@@ -1,17 +1,17 @@
 -- `leave` meets its promise: refused as checked, or with the port gone.
 use mathlib.Core.Path.{sym, ap, ◌∙◌}
-use Rattle.refusal.specs.declared.Checked.{Checked}
+use Rattle.refusal.specs.Answers.{Checked}
 use Rattle.line.specs.Line.{left}
 use Rattle.table.specs.Table.{view}
 use Rattle.table.specs.ViewLaws.{lines_changed}
 use Rattle.table.specs.StepLaws.{leave-refused, leave-done}
 use Rattle.login.proofs.leaving.leave.Goals as goal
 
-pub returns-in-Refused : goal.returns-in-Refused
-returns-in-Refused c older =
+pub returns-in-Err : goal.returns-in-Err
+returns-in-Err c older =
     let s = view c.args.table older in
-    ap (λ (k : Checked). record { answer = k; state = s }) c.in-Refused.is
-    ∙ sym (leave-refused _ s _ (sym (c.check_leave-answer.ensures older) ∙ c.in-Refused.is))
+    ap (λ (k : Checked). record { answer = k; state = s }) c.in-Err.is
+    ∙ sym (leave-refused _ s _ (sym (c.check_leave-answer.ensures older) ∙ c.in-Err.is))
 
 pub returns : goal.returns
 returns c older =

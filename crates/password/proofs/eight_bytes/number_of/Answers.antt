@@ -1,21 +1,21 @@
--- `number_of` meets its promise: the first four bytes, then the last four.
-use Prim.Native.Nat.{ℕ, ◌+◌, ◌*◌}
-use mathlib.Core.Path.{◌≡◌, sym, ap, ap₂, ◌∙◌}
-use borrow.Author.Rules.{rules}
-use lib.ListN.{length}
-use Rattle.digests.specs.Lists.{up_to}
-use Rattle.password.specs.EightBytes.{number_of}
-use Rattle.password.specs.EightBytesLaws.{number_eight}
-use Rattle.password.proofs.eight_bytes.EightListed.{as_eight}
+-- `number_of` meets its promise: the library's sum of the eight bytes is theirs.
+use Rattle.std.proofs.Common.{◌≡◌, ℕ, List, length, get_or, sym, ap, ◌∙◌, arith, rules}
+use Rattle.std.specs.Int.{from_be_bytes, w64}
+use Rattle.std.proofs.Math.Seq.{ext_get_or}
+use Rattle.digests.specs.Lists.{up_to, length-up_to, get_d_up_to}
+use Rattle.password.specs.EightBytes.{number_after, number_of}
 use Rattle.password.proofs.eight_bytes.number_of.Goals as goal
-use Rattle.password.proofs.eight_bytes.number_of.Goals.{Start}
 
-long : (c : Start) → length c.args.bytes ≡ 8
-long c = search rules
+listed : (l : List ℕ) → length l ≡ 8 → up_to 8 (λ (i : ℕ). get_or l i 0) ≡ l
+listed l long =
+    sym (ext_get_or 0 l (up_to 8 (λ (i : ℕ). get_or l i 0)) (long ∙ sym (length-up_to 8 (λ (i : ℕ). get_or l i 0)))
+    (λ i h. sym (get_d_up_to 8 (λ (j : ℕ). get_or l j 0) i (omega (arith, long)))))
+
+summed : (l : List ℕ) → from_be_bytes w64 l ≡ number_of (up_to 8 (λ (i : ℕ). get_or l i 0))
+unfolding number_after up_to
+summed l = omega arith
 
 pub returns : goal.returns
-unfolding up_to
 returns c =
-    ap₂ (λ (x y : ℕ). x * 4294967296 + y) c.four-high.ensures.joined c.four-low.ensures.joined
-    ∙ sym (number_eight _ _ _ _ _ _ _ _)
-    ∙ ap number_of (sym (as_eight c.args.bytes (long (goal.at.returns c).Start)))
+    let long : length c.args.bytes ≡ 8 = search rules in
+    c.from_be_bytes.ensures ∙ summed c.args.bytes ∙ ap number_of (listed c.args.bytes long)

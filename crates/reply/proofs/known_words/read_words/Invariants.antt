@@ -1,12 +1,6 @@
--- `read_words` meets its promise. The loop's invariant: the words from `k` on are looked up.
-use mathlib.Core.Path.{◌≡◌}
-use Prim.Native.Nat.{◌≤◌}
-use lib.ListN.{length}
-use Rattle.reply.proofs.known_words.Looked.{LookedFrom}
+-- `read_words` meets its promise. The loop's invariant: the words from `k` on are marked.
+use Rattle.reply.proofs.known_words.Looked.{MarkedFrom}
 use Rattle.reply.proofs.known_words.read_words.Given as goal
 
 abbrev pub invariant-loop-k : goal.invariant-loop-k
-invariant-loop-k l = (l.k ≤ 6) × (length l.words ≡ 6) × (length l.places ≡ 6) × LookedFrom l.words l.places l.marks l.k
-
-abbrev pub decreases-loop-k : goal.decreases-loop-k
-decreases-loop-k l = l.k
+invariant-loop-k l = MarkedFrom l.found l.marks l.k

@@ -17,32 +17,31 @@ returns-then-n-gt4 c = long_other c.args.t.now c.if-n-gt4.true
 
 pub returns-then-not-is_letter : goal.returns-then-not-is_letter
 returns-then-not-is_letter c =
-    let at = c.loop-i in
+    let at = c.loop-b in
     let t = c.args.t.now in
-    mixed_other t (at.invariant.2 ∙ other_byte t at.i c.loop-i-test.true
+    mixed_other t (at.invariant.1 ∙ other_byte t at.b-index c.loop-b-test.true
     (sym c.is_letter.ensures ∙ c.if-not-is_letter.true))
 
-pub loop-i-preserved : goal.loop-i-preserved
-loop-i-preserved c =
-    let at = c.loop-i in
+pub loop-b-preserved : goal.loop-b-preserved
+loop-b-preserved c =
+    let at = c.loop-b in
     let t = c.args.t.now in
-    let within = c.loop-i-test.true in
+    let within = c.loop-b-test.true in
     let letter = sym c.is_letter.ensures ∙ c.if-not-is_letter.false in (
-      omega arith,
-      letter_grows at.letters ((c.lower.result - 32)) at.i at.invariant.1 (omega (arith, c.lower.type_inv)),
+      letter_grows at.letters ((c.lower.result - 32)) at.b-index at.invariant.0 (omega (arith, c.lower.type_inv)),
+      at.invariant.1
+          ∙ letter_byte t at.b-index within letter,
       at.invariant.2
-          ∙ letter_byte t at.i within letter,
-      at.invariant.3
-          ∙ letter_number t at.i at.letters within
-          ∙ ap (λ (u : ℕ). number_from (at.letters * 256 + u) (upper_text (drop (at.i + 1) t)))
-          (sym (letter_upper (get_or t at.i 0) letter).1 ∙ ap (λ (u : ℕ). u - 32) (sym c.lower.ensures)),
+          ∙ letter_number t at.b-index at.letters within
+          ∙ ap (λ (u : ℕ). number_from (at.letters * 256 + u) (upper_text (drop (at.b-index + 1) t)))
+          (sym (letter_upper (get_or t at.b-index 0) letter).1 ∙ ap (λ (u : ℕ). u - 32) (sym c.lower.ensures)),
     )
 
 pub returns : goal.returns
 returns c =
-    let at = c.loop-i in
+    let at = c.loop-b in
     let t = c.args.t.now in
     letters_word t at.letters c.filled.result (omega arith) (omega arith)
-    (at.invariant.2 ∙ none_left_every t at.i (omega arith))
-    (sym (at.invariant.3 ∙ none_left_number t at.i at.letters (omega arith)))
+    (at.invariant.1 ∙ none_left_every t at.b-index (omega arith))
+    (sym (at.invariant.2 ∙ none_left_number t at.b-index at.letters (omega arith)))
     c.filled.ensures

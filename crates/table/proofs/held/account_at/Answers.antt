@@ -14,14 +14,14 @@ use Rattle.table.proofs.held.account_at.Goals.{Start}
 all : (c : Start) → length c.args.table.rooms ≡ 32
 all c = search (rules, unmapped)
 
-pub returns-then-place-gt31 : goal.returns-then-place-gt31
-returns-then-place-gt31 c older =
+pub returns-else-place-lt32 : goal.returns-else-place-lt32
+returns-else-place-lt32 c older =
     let a = c.args in
-    let all-32 = rooms-32 a.table older (all (goal.at.returns-then-place-gt31 c).Start) in
+    let all-32 = rooms-32 a.table older (all (goal.at.returns-else-place-lt32 c).Start) in
     ap (λ (held : Held). held.account)
-    (sym (get_or-eq_default (view a.table older).rooms free_room {n = a.place} (omega (arith, all-32, c.if-place-gt31.true))))
+    (sym (get_or-eq_default (view a.table older).rooms free_room {n = a.place} (omega (arith, all-32, c.if-place-lt32.false))))
 
-pub returns : goal.returns
-returns c older =
+pub returns-then-place-lt32 : goal.returns-then-place-lt32
+returns-then-place-lt32 c older =
     let a = c.args in
     sym (held_account (part_of older) (waiting a.table.lines) 0 a.table.rooms a.place a.place (omega arith))

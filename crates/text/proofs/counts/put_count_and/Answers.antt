@@ -10,7 +10,7 @@ use Rattle.text.proofs.counts.put_count_and.Goals.{After-spell-a}
 counted : (c : After-spell-a) →
     let a = c.args in
     Put (decimal_of a.n) a.buf.now c.spell-a.new.buf c.spell-a.result
-counted c = rw c.width.ensures at c.spell-a.ensures
+counted c = rw (c.width.ensures, c.from.ensures) at c.spell-a.ensures
 
 pub bounds-buf-a : goal.bounds-buf-a
 bounds-buf-a c = omega (arith, (counted (goal.at.bounds-buf-a c).After-spell-a).0, length_decimal c.args.n)

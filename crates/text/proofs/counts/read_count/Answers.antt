@@ -1,4 +1,5 @@
 -- `read_count` meets its promise: the tests of a count, and then its number.
+use Rattle.std.specs.Prelude.{Some, None}
 use Prim.Native.Nat.{ℕ, ◌≤◌, ◌<◌}
 use mathlib.Core.Path.{◌≡◌, sym, ◌∙◌, ap}
 use mathlib.Core.Bool.{true, false, not, ◌&&◌}
@@ -10,7 +11,6 @@ use Rattle.text.specs.Kinds.{is_digit}
 use Rattle.text.specs.Scan.{run_of}
 use Rattle.text.specs.Digits.{number_of}
 use Rattle.text.specs.ScanLaws.{run_whole}
-use Rattle.text.specs.declared.counts.Counted.{Counted}
 use Rattle.text.specs.Counts.{leading_zero, is_count, counted_of}
 use Rattle.text.specs.CountLaws.{count_digits}
 use Rattle.text.proofs.counts.read_count.Goals as goal
@@ -20,10 +20,10 @@ tested : (t : List ℕ) (d : ℕ) → 1 ≤ length t → d ≡ run_of is_digit t
 unfolding is_count
 tested t d h e = rw (e, run_whole is_digit t, le-leb 1 (length t) h)
 
-counted : (t : List ℕ) (n : ℕ) → is_count t ≡ true → n ≡ number_of 10 t → Counted.Is n ≡ counted_of t
-counted t n e f = rw e (ap Counted.Is f)
+counted : (t : List ℕ) (n : ℕ) → is_count t ≡ true → n ≡ number_of 10 t → Some n ≡ counted_of t
+counted t n e f = rw e (ap Some f)
 
-uncounted : (t : List ℕ) → is_count t ≡ false → Counted.Unread ≡ counted_of t
+uncounted : (t : List ℕ) → is_count t ≡ false → None ≡ counted_of t
 uncounted t e = rw e
 
 empty : (t : List ℕ) → length t < 1 → is_count t ≡ false

@@ -1,29 +1,18 @@
--- `run` meets its promise. The loop's invariant: the run from `at` on is the bytes passed and the run from `i` on.
-use mathlib.Core.Path.{sym, ◌∙◌}
-use native.Mathlib.Omega.{arith}
+-- `run` meets its promise: what the chain counts is the run.
+use Rattle.std.proofs.Common.{take, length, ◌-◌, ◌∙◌, ap, drop, rules}
+use borrow.Author.Tests.{tests}
+use Rattle.std.proofs.lemmas.Iterator.{YieldsList-from_slice}
+use Rattle.std.proofs.lemmas.Iterator.Search.{YieldsList-from_take_while}
+use Rattle.std.proofs.lemmas.Iterator.Consumers.{count_from_yields_List}
 use Rattle.text.specs.Kinds.{of_kind}
-use Rattle.text.specs.ScanLaws.{run_past, run_goes_on, run_ends}
+use Rattle.text.specs.Scan.{run_of}
+use Rattle.text.specs.ScanLaws.{run_taken, rest_least}
 use Rattle.text.proofs.scan.run.Goals as goal
-
-pub returns-then-not-of_kind : goal.returns-then-not-of_kind
-returns-then-not-of_kind c =
-    let a = c.args in
-    omega (
-      arith,
-      run_ends (of_kind a.kind) a.s.now c.loop-i.i c.loop-i-test.true
-          (sym c.of_kind.ensures ∙ c.if-not-of_kind.true),
-    )
-
-pub loop-i-preserved : goal.loop-i-preserved
-loop-i-preserved c =
-    let a = c.args in
-    omega (
-      arith,
-      run_goes_on (of_kind a.kind) a.s.now c.loop-i.i c.loop-i-test.true
-          (sym c.of_kind.ensures ∙ c.if-not-of_kind.false),
-    )
 
 pub returns : goal.returns
 returns c =
-    let a = c.args in
-    omega (arith, run_past (of_kind a.kind) a.s.now c.loop-i.i c.loop-i-test.false)
+    count_from_yields_List _ _ c.count.ensures.ran
+    (YieldsList-from_take_while _ (of_kind c.args.kind) (YieldsList-from_slice (take (length c.args.s.now - c.min.result) (drop c.min.result c.args.s.now)) cc)
+    c.take_while.ensures.closure c.take_while.ensures.done (λ x b q k. search (rules, tests)))
+    ∙ run_taken (of_kind c.args.kind) (take (length c.args.s.now - c.min.result) (drop c.min.result c.args.s.now))
+    ∙ ap (run_of (of_kind c.args.kind)) (rest_least c.args.s.now c.args.at c.min.result c.min.ensures)

@@ -6,7 +6,7 @@ use mathlib.Core.List.{List}
 use borrow.Author.Tests.{eq-eqb, ne_eqb}
 use lib.Dec.{eqb}
 use Rattle.accounts.specs.Rooms.{part_of, room_of}
-use Rattle.table.specs.declared.Replied.{Replied}
+use Rattle.table.specs.Answers.{Replied}
 use Rattle.turns.specs.TurnPart.{Said, seen, outcome, older_after, accepted, rejected, compared}
 use Rattle.turns.proofs.offering.compare.Goals as goal
 use Rattle.turns.proofs.offering.compare.Goals.{After-step}

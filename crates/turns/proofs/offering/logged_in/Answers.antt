@@ -7,13 +7,13 @@ use Rattle.turns.specs.TurnPart.{seen, outcome, refused, compared, logged_in}
 use Rattle.turns.specs.TurnPartLaws.{same_older}
 use Rattle.turns.proofs.offering.logged_in.Goals as goal
 
-pub returns-in-Refused : goal.returns-in-Refused
+pub returns-in-Err : goal.returns-in-Err
 unfolding logged_in
-returns-in-Refused c older =
+returns-in-Err c older =
     let a = c.args in
     let t = seen a.turn older in
     c.stays.ensures older
-    ∙ first_refused (refused t) _ _ (compared a.password (lowered t.account a.password) t) c.in-Refused.is
+    ∙ first_refused (refused t) _ _ (compared a.password (lowered t.account a.password) t) c.in-Err.is
 
 pub returns : goal.returns
 unfolding logged_in

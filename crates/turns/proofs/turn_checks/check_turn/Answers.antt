@@ -1,20 +1,19 @@
 -- `check_turn` meets its promise: the place in line, then the account.
+use Rattle.std.specs.Prelude.{Err}
 use mathlib.Core.Path.{sym, ◌∙◌}
-use Rattle.refusal.specs.declared.Checked.{Checked}
 use Rattle.refusal.specs.Checks.{in_order}
-use Rattle.refusal.specs.Laws.{first_refused, first_good}
+use Rattle.refusal.specs.Laws.{first_refused, first_good, passed_on}
 use Rattle.accounts.specs.Rooms.{room_of}
 use Rattle.turns.specs.TurnChecks.{account_checks, front_checked}
 use Rattle.turns.proofs.turn_checks.check_turn.Goals as goal
 
-pub returns-in-Refused : goal.returns-in-Refused
+pub returns-in_err-check_place : goal.returns-in_err-check_place
 unfolding front_checked
-returns-in-Refused c part =
-    let refused = c.in-Refused.is in
-    refused
-    ∙ first_refused Checked.Refused _ _ (in_order (account_checks (room_of c.args.account part))) (sym c.check_place-placed.ensures ∙ refused)
+returns-in_err-check_place c part =
+    passed_on _ _ c.from_residual.ensures.1
+    ∙ first_refused Err _ _ (in_order (account_checks (room_of c.args.account part))) (sym c.check_place.ensures ∙ c.in_err-check_place.was)
 
 pub returns : goal.returns
 unfolding front_checked
 returns c part =
-    c.check_account.ensures part ∙ first_good Checked.Refused _ _ (sym c.check_place-placed.ensures ∙ c.in_default.is)
+    c.check_account.ensures part ∙ first_good Err _ _ (sym c.check_place.ensures ∙ c.in_ok-check_place.was)

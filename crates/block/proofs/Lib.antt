@@ -1,0 +1,2 @@
+-- Lemmas that the proofs of this crate share.
+pub mod Blocks

@@ -1,0 +1,49 @@
+// A place in a text, and what is read from there.
+ghost use Rattle.std.specs.Prelude.{◌≡◌, ◌≤◌, length, drop};
+ghost use Rattle.challenge.specs.Challenges as spec;
+
+use text::kinds::Kind;
+use text::scan::{run, stretch_at};
+
+// Before a byte of the text, or at its end.
+#[derive(Clone, Copy)]
+pub struct Place<'a> {
+    pub text: &'a [u8],
+    pub at: usize,
+    ghost within: { at ≤ length text.now },
+}
+
+impl<'a> Place<'a> {
+    // The token that starts there.
+    pub fn token(self) -> &'a [u8]
+        ensures { result.now ≡ spec.token_at self.entry.text.now self.entry.at }
+    {
+        stretch_at(self.text, self.at, Kind::Token)
+    }
+
+    // Where that token ends.
+    pub fn end(self) -> Place<'a>
+        ensures { (result.text ≡ self.entry.text) × (result.at ≡ spec.end_of self.entry.text.now self.entry.at) }
+    {
+        let text = self.text;
+        let at = self.at + self.token().len();
+        Place { text, at }
+    }
+
+    // Where the token after it starts.
+    pub fn next(self) -> Place<'a>
+        ensures { (result.text ≡ self.entry.text) × (result.at ≡ spec.next_at self.entry.text.now self.entry.at) }
+    {
+        let end = self.end();
+        let text = end.text;
+        let at = end.at + run(text, end.at, Kind::Blank);
+        Place { text, at }
+    }
+
+    // Whether a space or a newline stands there.
+    pub fn is_terminated(self) -> bool
+        ensures { result ≡ spec.terminated (drop self.entry.at self.entry.text.now) }
+    {
+        matches!(&self.text[self.at..], [b' ' | b'\n', ..])
+    }
+}

@@ -1,6 +1,0 @@
--- `hashes` ends: one hash in each turn.
-use Rattle.std.proofs.Common.{◌-◌}
-use Rattle.meter.proofs.hashes.Given as goal
-
-abbrev pub decreases-loop-k : goal.decreases-loop-k
-decreases-loop-k l = l.times - l.k

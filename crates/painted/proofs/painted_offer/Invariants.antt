@@ -1,9 +1,0 @@
--- `painted_offer` ends: one call in each turn.
-use Rattle.std.proofs.Common.{◌-◌, ◌≤◌}
-use Rattle.painted.proofs.painted_offer.Given as goal
-
-abbrev pub invariant-loop-k : goal.invariant-loop-k
-invariant-loop-k l = l.k ≤ l.times
-
-abbrev pub decreases-loop-k : goal.decreases-loop-k
-decreases-loop-k l = l.times - l.k

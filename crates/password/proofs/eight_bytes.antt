@@ -1,2 +1,0 @@
--- What the proof of `number_of` stands on.
-pub mod EightListed

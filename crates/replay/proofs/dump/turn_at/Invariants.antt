@@ -1,6 +1,0 @@
--- `turn_at` ends: one place in each turn.
-use Rattle.std.proofs.Common.{◌-◌}
-use Rattle.replay.proofs.dump.turn_at.Given as goal
-
-abbrev pub decreases-loop-i : goal.decreases-loop-i
-decreases-loop-i l = 4 - l.i

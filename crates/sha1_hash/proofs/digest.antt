@@ -1,2 +1,0 @@
--- What the proofs of `digest`'s functions share.
-pub mod DigestBytes

@@ -1,2 +1,0 @@
--- What the private functions of `wordlist` promise.
-pub mod Inside
