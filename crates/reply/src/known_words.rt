@@ -37,15 +37,17 @@ fn why_not(marks: u8) -> Refusal
     }
 }
 
-// The password that six packed words stand for. They are gone through from the last to the first, so that the marks are those of the
+// The password that six packed words stand for. They are looked up from the last to the first, so that the marks are those of the
 // words behind, doubled, and the word's own. The places have no number where one is 2,048; `why_not` then says which refusal it is.
 pub fn read_words(words: [u32; 6]) -> Reading
     ensures { result ≡ found_reading (map found_of words) }
 {
-    let found = words.map(place_of);
+    let mut places = [0usize; 6];
     let mut marks: u8 = 0;
     for k in (0..6).rev() {
-        marks = marked(found[k], marks);
+        let found = place_of(words[k]);
+        places[k] = place_in(found);
+        marks = marked(found, marks);
     }
-    number_of(found.map(place_in)).ok_or(why_not(marks))
+    number_of(places).ok_or(why_not(marks))
 }
