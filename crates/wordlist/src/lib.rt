@@ -16,7 +16,8 @@ pub fn word_at(place: usize) -> u32
     WORDS.get(place).copied().unwrap_or(0)
 }
 
-// Where a packed word stands, if it does.
+// Where a packed word stands, if it does. It stays a function of its own: taken in line into a loop over six words, the steps of its search become branches.
+#[inline(never)]
 pub fn place_of(word: u32) -> Option<usize>
     ensures { result ≡ found_of word }
 {
