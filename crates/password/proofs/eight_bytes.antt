@@ -1,0 +1,2 @@
+-- What the proof of `number_of` stands on.
+pub mod EightListed
