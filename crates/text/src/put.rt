@@ -3,14 +3,15 @@ ghost use Rattle.std.specs.Prelude.{[], ◌∷◌, ◌++◌, ◌+◌, ◌≤◌,
 ghost use Rattle.text.specs.Digits.{digits_of};
 ghost use Rattle.text.specs.Put.{Put};
 
-// The bytes of `t` at the front of the buffer, and how many they are.
+// The bytes of `t` at the front of the buffer, and how many they are. By a loop: with `copy_from_slice` what C links calls `memmove`.
 pub fn copy(buf: &mut [u8], t: &[u8]) -> usize
     requires { length t.now ≤ length buf.old }
     ensures { Put t.now buf.old buf.new result }
 {
-    let n = t.len();
-    buf[..n].copy_from_slice(t);
-    n
+    for (i, b) in t.iter().enumerate() {
+        buf[i] = *b;
+    }
+    t.len()
 }
 
 // The same and one byte after it.
