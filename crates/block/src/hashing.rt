@@ -45,7 +45,10 @@ pub trait HashFunction {
 
     ghost steps: { List ℕ → Self.Words → Self.Words };
 
-    fn lent() -> Self::Lent;
+    ghost loan: { Self.Lent };
+
+    fn lent() -> Self::Lent
+        ensures { result ≡ loan };
 
     // The words h with a block taken in: the steps, and the sum. Here, and not in a function over the steps: that was compiled once for
     // each crate that called it, and the words then went through memory before the sum.

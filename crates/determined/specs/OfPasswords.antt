@@ -10,6 +10,12 @@ use Rattle.block.proofs.bitwise.parity.Reads as parity
 use Rattle.block.proofs.by_four.part.Reads as part
 use Rattle.block.proofs.as_bytes.word.Reads as put_word
 use Rattle.block.proofs.as_bytes.two_words.Reads as put_two_words
+use Rattle.block.proofs.hashing.Words.order.Reads as order
+use Rattle.block.proofs.hashing.Words.initial.Reads as initial
+use Rattle.block.proofs.hashing.Words.summed.Reads as summed
+use Rattle.block.proofs.hashing.Words.put.Reads as put_digest
+use Rattle.block.proofs.hashing.HashFunction.lent.Reads as lent
+use Rattle.block.proofs.hashing.HashFunction.compress.Reads as compress
 use Rattle.block.proofs.hashing.hash.Reads as hash
 use Rattle.block.proofs.hashing.hash_eight.Reads as hash_eight
 use Rattle.block.proofs.hashing.digest.Reads as hash_digest
@@ -65,7 +71,26 @@ put_word_determined k a y z e f p q = both p q
 pub put_two_words_determined : AnswersAndLent put_two_words.Learnt (λ k e. e.1.0.now)
 put_two_words_determined k a y z e f p q = both p q
 
+-- Of what is kept of a message, whatever its words: the type, its laws, and what its bounds give.
+pub order_determined : (T L C W D E F : _) → Answers (order.Learnt T L C W D E F)
+order_determined T L C W D E F k a y z e f p q = p ∙ sym q
+
+pub initial_determined : (T L C W D E F : _) → Answers (initial.Learnt T L C W D E F)
+initial_determined T L C W D E F k a y z e f p q = p ∙ sym q
+
+pub summed_determined : (T L C W D E F : _) → Answers (summed.Learnt T L C W D E F)
+summed_determined T L C W D E F k a y z e f p q = p ∙ sym q
+
+pub put_digest_determined : (T L C W D E F : _) → AnswersAndLent (put_digest.Learnt T L C W D E F) (λ k e. e.1.0.now)
+put_digest_determined T L C W D E F k a y z e f p q = both p q
+
 -- Of every hash function: the three types of the trait, their laws, and what its two bounds give.
+pub lent_determined : (T₁ T₂ T₃ : _) (L₁ L₂ L₃ C H B W D E F G : _) → Answers (lent.Learnt T₁ T₂ T₃ L₁ L₂ L₃ C H B W D E F G)
+lent_determined T₁ T₂ T₃ L₁ L₂ L₃ C H B W D E F G k a y z e f p q = p ∙ sym q
+
+pub compress_determined : (T₁ T₂ T₃ : _) (L₁ L₂ L₃ C H B W D E F G : _) → Answers (compress.Learnt T₁ T₂ T₃ L₁ L₂ L₃ C H B W D E F G)
+compress_determined T₁ T₂ T₃ L₁ L₂ L₃ C H B W D E F G k a y z e f p q = p ∙ sym q
+
 pub hash_determined : (T₁ T₂ T₃ : _) (L₁ L₂ L₃ C H B W D E F G : _) → Answers (hash.Learnt T₁ T₂ T₃ L₁ L₂ L₃ C H B W D E F G)
 hash_determined T₁ T₂ T₃ L₁ L₂ L₃ C H B W D E F G k a y z e f p q = p ∙ sym q
 

@@ -16,7 +16,12 @@ pub struct Constants {
 }
 
 impl Constants {
-    pub fn new() -> Constants {
+    pub fn new() -> Constants
+        ensures first { result.t1 ≡ (as_printed Round.First).constants }
+        ensures second { result.t2 ≡ (as_printed Round.Second).constants }
+        ensures third { result.t3 ≡ (as_printed Round.Third).constants }
+        ensures fourth { result.t4 ≡ (as_printed Round.Fourth).constants }
+    {
         Constants {
             t1: [
                 0xd76aa478, 0xe8c7b756, 0x242070db, 0xc1bdceee, 0xf57c0faf, 0x4787c62a, 0xa8304613,

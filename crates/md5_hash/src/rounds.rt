@@ -1,5 +1,8 @@
 // RFC 1321, 3.4: the four rounds on the registers.
+ghost use Rattle.std.specs.Prelude.{refl};
 ghost use Rattle.digests.specs.Rounds as spec;
+ghost use Rattle.md5_hash.specs.declared.round.Round.{Round};
+ghost use Rattle.md5_hash.specs.Inside.{as_printed};
 
 use crate::constants::Constants;
 use crate::lent::Lent;
@@ -18,6 +21,17 @@ impl HashFunction for Md5 {
     type Lent = Constants;
 
     ghost steps = { spec.rounds };
+
+    ghost loan = { record {
+      t1 = (as_printed Round.First).constants;
+      t2 = (as_printed Round.Second).constants;
+      t3 = (as_printed Round.Third).constants;
+      t4 = (as_printed Round.Fourth).constants;
+      first = refl;
+      second = refl;
+      third = refl;
+      fourth = refl;
+    } };
 
     fn lent() -> Constants {
         Constants::new()

@@ -71,6 +71,8 @@ impl HashFunction for Sha1 {
 
     ghost steps = { spec.eighty };
 
+    ghost loan = { tt };
+
     fn lent() {}
 
     // The eighty steps, four at a time, and the sum.
