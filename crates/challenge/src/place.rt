@@ -21,13 +21,22 @@ impl<'a> Place<'a> {
         stretch_at(self.text, self.at, Kind::Token)
     }
 
-    // Where that token ends.
+    // That token, and where it ends.
+    pub fn token_and_end(self) -> (&'a [u8], Place<'a>)
+        ensures { (result.0.now ≡ spec.token_at self.entry.text.now self.entry.at)
+            × (result.1.text ≡ self.entry.text) × (result.1.at ≡ spec.end_of self.entry.text.now self.entry.at) }
+    {
+        let text = self.text;
+        let token = self.token();
+        let at = self.at + token.len();
+        (token, Place { text, at })
+    }
+
+    // Where it ends.
     pub fn end(self) -> Place<'a>
         ensures { (result.text ≡ self.entry.text) × (result.at ≡ spec.end_of self.entry.text.now self.entry.at) }
     {
-        let text = self.text;
-        let at = self.at + self.token().len();
-        Place { text, at }
+        self.token_and_end().1
     }
 
     // Where the token after it starts.

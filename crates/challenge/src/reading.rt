@@ -46,9 +46,8 @@ fn is_mark(t: &[u8]) -> bool
 fn mark_end(start: Place) -> Option<usize>
     ensures { result ≡ inside.mark_end start.entry.text.now start.entry.at }
 {
-    let mark = start.next();
-    let end = mark.end();
-    if is_mark(mark.token()) & end.is_terminated() {
+    let (mark, end) = start.next().token_and_end();
+    if is_mark(mark) & end.is_terminated() {
         Some(end.at)
     } else {
         None
@@ -59,9 +58,8 @@ fn mark_end(start: Place) -> Option<usize>
 fn seed_from(start: Place, algorithm: Algorithm, count: u32) -> Result<Challenge, Refusal>
     ensures { result ≡ inside.seed_from start.entry.text.now algorithm count start.entry.at }
 {
-    let seed = start.token();
+    let (seed, end) = start.token_and_end();
     check_seed(seed)?;
-    let end = start.end();
     if !end.is_terminated() {
         return Err(Refusal::SeedUnended);
     }
