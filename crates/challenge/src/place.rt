@@ -1,5 +1,7 @@
 // A place in a text, and what is read from there.
-ghost use Rattle.std.specs.Prelude.{◌≡◌, ◌≤◌, length, drop};
+ghost use Rattle.std.specs.Prelude.{◌≡◌, ◌+◌, ◌≤◌, length, drop};
+ghost use Rattle.text.specs.Kinds.{is_blank};
+ghost use Rattle.text.specs.Scan.{run_of};
 ghost use Rattle.challenge.specs.Challenges as spec;
 
 use text::kinds::Kind;
@@ -32,20 +34,13 @@ impl<'a> Place<'a> {
         (token, Place { text, at })
     }
 
-    // Where it ends.
-    pub fn end(self) -> Place<'a>
-        ensures { (result.text ≡ self.entry.text) × (result.at ≡ spec.end_of self.entry.text.now self.entry.at) }
+    // Past the blanks that stand there: from where a token ends, where the next one starts.
+    pub fn past_blanks(self) -> Place<'a>
+        ensures { (result.text ≡ self.entry.text)
+            × (result.at ≡ self.entry.at + run_of is_blank (drop self.entry.at self.entry.text.now)) }
     {
-        self.token_and_end().1
-    }
-
-    // Where the token after it starts.
-    pub fn next(self) -> Place<'a>
-        ensures { (result.text ≡ self.entry.text) × (result.at ≡ spec.next_at self.entry.text.now self.entry.at) }
-    {
-        let end = self.end();
-        let text = end.text;
-        let at = end.at + run(text, end.at, Kind::Blank);
+        let text = self.text;
+        let at = self.at + run(text, self.at, Kind::Blank);
         Place { text, at }
     }
 

@@ -36,8 +36,14 @@ said : (algorithm : Algorithm) (count start : ℕ) (l m u v : ℕ) (x y : Bool) 
     → a_challenge algorithm count start l u x ≡ a_challenge algorithm count start m v y
 said algorithm count start l m u v x y e f g = cc
 
+marked : (c : After-unwrap_or) → c.mark_end-mark.result ≡ mark_end c.args.start.text.now c.args.start.at
+marked c =
+    let a = c.args.start in
+    let end = c.token_and_end.ensures in
+    c.mark_end-mark.ensures a.at (end.2 ∙ ap (λ (t : Bor (List ℕ)). end_of t.now a.at) (sym end.1)) ∙ ap (λ (t : Bor (List ℕ)). mark_end t.now a.at) end.1
+
 last : (c : After-unwrap_or) → c.unwrap_or.result ≡ unwrap_or (mark_end c.args.start.text.now c.args.start.at) (end_of c.args.start.text.now c.args.start.at)
-last c = c.unwrap_or.ensures ∙ ap₂ (λ (o : Option ℕ) (k : ℕ). unwrap_or o k) c.mark_end-mark.ensures c.token_and_end.ensures.2
+last c = c.unwrap_or.ensures ∙ ap₂ (λ (o : Option ℕ) (k : ℕ). unwrap_or o k) (marked c) c.token_and_end.ensures.2
 
 pub overflow_add-result : goal.overflow_add-result
 overflow_add-result c =
@@ -50,6 +56,6 @@ returns c =
     said c.args.algorithm c.args.count a.at _ (length (token_at a.text.now a.at)) _ (used_by a.text.now a.at) _ (has_mark a.text.now a.at)
     (ap length c.token_and_end.ensures.0)
     (ap (λ (n : ℕ). n + 1) (last (goal.at.returns c).After-unwrap_or) ∙ mark_used a.text.now a.at)
-    (c.is_some.ensures ∙ ap is_some c.mark_end-mark.ensures ∙ mark_said a.text.now a.at)
+    (c.is_some.ensures ∙ ap is_some (marked (goal.at.returns c).After-unwrap_or) ∙ mark_said a.text.now a.at)
     ∙ sym (all_good a.text.now _ _ a.at (good (goal.at.returns c).In_ok-check_seed)
     (sym (ended (goal.at.returns c).After-is_terminated) ∙ c.if-not-is_terminated.false))
