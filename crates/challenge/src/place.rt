@@ -1,5 +1,7 @@
 // A place in a text, and what is read from there.
-ghost use Rattle.std.specs.Prelude.{◌≡◌, ◌≤◌, length, drop};
+ghost use Rattle.std.specs.Prelude.{◌≡◌, ◌+◌, ◌≤◌, length, drop};
+ghost use Rattle.text.specs.Kinds.{is_blank};
+ghost use Rattle.text.specs.Scan.{run_of};
 ghost use Rattle.challenge.specs.Challenges as spec;
 
 use text::kinds::Kind;
@@ -21,22 +23,24 @@ impl<'a> Place<'a> {
         stretch_at(self.text, self.at, Kind::Token)
     }
 
-    // Where that token ends.
-    pub fn end(self) -> Place<'a>
-        ensures { (result.text ≡ self.entry.text) × (result.at ≡ spec.end_of self.entry.text.now self.entry.at) }
+    // That token, and where it ends.
+    pub fn token_and_end(self) -> (&'a [u8], Place<'a>)
+        ensures { (result.0.now ≡ spec.token_at self.entry.text.now self.entry.at)
+            × (result.1.text ≡ self.entry.text) × (result.1.at ≡ spec.end_of self.entry.text.now self.entry.at) }
     {
         let text = self.text;
-        let at = self.at + self.token().len();
-        Place { text, at }
+        let token = self.token();
+        let at = self.at + token.len();
+        (token, Place { text, at })
     }
 
-    // Where the token after it starts.
-    pub fn next(self) -> Place<'a>
-        ensures { (result.text ≡ self.entry.text) × (result.at ≡ spec.next_at self.entry.text.now self.entry.at) }
+    // Past the blanks that stand there: from where a token ends, where the next one starts.
+    pub fn past_blanks(self) -> Place<'a>
+        ensures { (result.text ≡ self.entry.text)
+            × (result.at ≡ self.entry.at + run_of is_blank (drop self.entry.at self.entry.text.now)) }
     {
-        let end = self.end();
-        let text = end.text;
-        let at = end.at + run(text, end.at, Kind::Blank);
+        let text = self.text;
+        let at = self.at + run(text, self.at, Kind::Blank);
         Place { text, at }
     }
 

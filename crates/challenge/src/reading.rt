@@ -1,5 +1,5 @@
 // Reading a challenge, from left to right.
-ghost use Rattle.std.specs.Prelude.{◌≡◌, ◌+◌, take};
+ghost use Rattle.std.specs.Prelude.{◌≡◌, ℕ, ◌+◌, take};
 ghost use Rattle.text.specs.Tests.{same as same_text};
 ghost use Rattle.challenge.specs.Challenges as spec;
 ghost use Rattle.challenge.specs.Inside as inside;
@@ -41,14 +41,13 @@ fn is_mark(t: &[u8]) -> bool
     same(t, b"ext") | t.starts_with(b"ext,")
 }
 
-// Where the mark behind the seed at a place ends, if there is one. Where the seed is ended by a newline there is none, since no token starts
+// Where the mark behind a seed ends, if there is one, by where the seed ends. Where the seed is ended by a newline there is none, since no token starts
 // with that.
-fn mark_end(start: Place) -> Option<usize>
-    ensures { result ≡ inside.mark_end start.entry.text.now start.entry.at }
+fn mark_end(seed_end: Place) -> Option<usize>
+    ensures { (start : ℕ) → seed_end.entry.at ≡ spec.end_of seed_end.entry.text.now start → result ≡ inside.mark_end seed_end.entry.text.now start }
 {
-    let mark = start.next();
-    let end = mark.end();
-    if is_mark(mark.token()) & end.is_terminated() {
+    let (mark, end) = seed_end.past_blanks().token_and_end();
+    if is_mark(mark) & end.is_terminated() {
         Some(end.at)
     } else {
         None
@@ -59,13 +58,12 @@ fn mark_end(start: Place) -> Option<usize>
 fn seed_from(start: Place, algorithm: Algorithm, count: u32) -> Result<Challenge, Refusal>
     ensures { result ≡ inside.seed_from start.entry.text.now algorithm count start.entry.at }
 {
-    let seed = start.token();
+    let (seed, end) = start.token_and_end();
     check_seed(seed)?;
-    let end = start.end();
     if !end.is_terminated() {
         return Err(Refusal::SeedUnended);
     }
-    let mark = mark_end(start);
+    let mark = mark_end(end);
     Ok(Challenge {
         algorithm,
         count,
@@ -83,10 +81,11 @@ pub fn read(text: &[u8]) -> Result<Challenge, Refusal>
         return Err(Refusal::OpeningWrong);
     }
     let name_at = Place { text, at: 4 };
-    let algorithm = read_name(name_at.token()).ok_or(Refusal::AlgorithmUnknown)?;
-    let count_at = name_at.next();
-    let count = read_count(count_at.token()).ok_or(Refusal::CountUnread)?;
-    seed_from(count_at.next(), algorithm, count)
+    let (name, name_end) = name_at.token_and_end();
+    let algorithm = read_name(name).ok_or(Refusal::AlgorithmUnknown)?;
+    let (digits, count_end) = name_end.past_blanks().token_and_end();
+    let count = read_count(digits).ok_or(Refusal::CountUnread)?;
+    seed_from(count_end.past_blanks(), algorithm, count)
 }
 
 // The seed, as the part of the text where it stands; after a refusal the empty part at the start.

@@ -11,15 +11,15 @@ use Rattle.challenge.proofs.reading.seed_from.Goals as goal
 use Rattle.challenge.proofs.reading.seed_from.Goals.{After-check_seed, After-is_terminated, In_ok-check_seed, After-unwrap_or}
 
 checked : (c : After-check_seed) → c.check_seed.result ≡ seed_checked (token_at c.args.start.text.now c.args.start.at)
-checked c = c.check_seed.ensures ∙ ap seed_checked c.token-seed.ensures
+checked c = c.check_seed.ensures ∙ ap seed_checked c.token_and_end.ensures.0
 
 good : (c : In_ok-check_seed) → seed_checked (token_at c.args.start.text.now c.args.start.at) ≡ Ok tt
-good c = sym (c.check_seed.ensures ∙ ap seed_checked c.token-seed.ensures) ∙ c.in_ok-check_seed.was
+good c = sym (c.check_seed.ensures ∙ ap seed_checked c.token_and_end.ensures.0) ∙ c.in_ok-check_seed.was
 
 ended : (c : After-is_terminated) →
     c.is_terminated.result ≡ terminated (drop (end_of c.args.start.text.now c.args.start.at) c.args.start.text.now)
 ended c =
-    c.is_terminated.ensures ∙ ap₂ (λ (t : Bor (List ℕ)) (k : ℕ). terminated (drop k t.now)) c.end-end.ensures.0 c.end-end.ensures.1
+    c.is_terminated.ensures ∙ ap₂ (λ (t : Bor (List ℕ)) (k : ℕ). terminated (drop k t.now)) c.token_and_end.ensures.1 c.token_and_end.ensures.2
 
 pub returns-in_err-check_seed : goal.returns-in_err-check_seed
 returns-in_err-check_seed c =
@@ -36,8 +36,14 @@ said : (algorithm : Algorithm) (count start : ℕ) (l m u v : ℕ) (x y : Bool) 
     → a_challenge algorithm count start l u x ≡ a_challenge algorithm count start m v y
 said algorithm count start l m u v x y e f g = cc
 
+marked : (c : After-unwrap_or) → c.mark_end-mark.result ≡ mark_end c.args.start.text.now c.args.start.at
+marked c =
+    let a = c.args.start in
+    let end = c.token_and_end.ensures in
+    c.mark_end-mark.ensures a.at (end.2 ∙ ap (λ (t : Bor (List ℕ)). end_of t.now a.at) (sym end.1)) ∙ ap (λ (t : Bor (List ℕ)). mark_end t.now a.at) end.1
+
 last : (c : After-unwrap_or) → c.unwrap_or.result ≡ unwrap_or (mark_end c.args.start.text.now c.args.start.at) (end_of c.args.start.text.now c.args.start.at)
-last c = c.unwrap_or.ensures ∙ ap₂ (λ (o : Option ℕ) (k : ℕ). unwrap_or o k) c.mark_end-mark.ensures c.end-end.ensures.1
+last c = c.unwrap_or.ensures ∙ ap₂ (λ (o : Option ℕ) (k : ℕ). unwrap_or o k) (marked c) c.token_and_end.ensures.2
 
 pub overflow_add-result : goal.overflow_add-result
 overflow_add-result c =
@@ -48,8 +54,8 @@ pub returns : goal.returns
 returns c =
     let a = c.args.start in
     said c.args.algorithm c.args.count a.at _ (length (token_at a.text.now a.at)) _ (used_by a.text.now a.at) _ (has_mark a.text.now a.at)
-    (ap length c.token-seed.ensures)
+    (ap length c.token_and_end.ensures.0)
     (ap (λ (n : ℕ). n + 1) (last (goal.at.returns c).After-unwrap_or) ∙ mark_used a.text.now a.at)
-    (c.is_some.ensures ∙ ap is_some c.mark_end-mark.ensures ∙ mark_said a.text.now a.at)
+    (c.is_some.ensures ∙ ap is_some (marked (goal.at.returns c).After-unwrap_or) ∙ mark_said a.text.now a.at)
     ∙ sym (all_good a.text.now _ _ a.at (good (goal.at.returns c).In_ok-check_seed)
     (sym (ended (goal.at.returns c).After-is_terminated) ∙ c.if-not-is_terminated.false))
