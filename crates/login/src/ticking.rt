@@ -9,7 +9,7 @@ pub fn tick(mut table: Table) -> Table
     ensures { (older : List ℕ) → view result older ≡ steps.tick (view table older) }
 {
     for port in table.ports.iter_mut() {
-        port.tick();
+        *port = port.after_tick();
     }
     table.lines = table.lines.tick();
     table

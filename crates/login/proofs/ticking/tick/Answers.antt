@@ -24,7 +24,7 @@ loop-port-preserved c =
     let later =
     map_over_more cooled c.args.table.ports at.port-items at.port-index _ (omega arith) at.invariant.1
     (get_or_default at.port-items at.port-index _ _ (omega arith)) in
-    (length-set at.port-items at.port-index _ ∙ at.invariant.0, ap (λ (p : Port). set at.port-items at.port-index p) c.tick.ensures ∙ later)
+    (length-set at.port-items at.port-index _ ∙ at.invariant.0, ap (λ (p : Port). set at.port-items at.port-index p) c.after_tick.ensures ∙ later)
 
 pub returns : goal.returns
 unfolding tick
