@@ -1,7 +1,8 @@
 """What is promised and stated, as a list to compare: `python3 host/listing.py [--outer] [ROOT]`.
 
-A line for each function of a library that has a promise, with its signature and
-its clauses; for each theorem, with what its module takes for granted; and for
+A line for each function of a library that has a promise, a method and what a
+trait asks for too, under its type's or trait's name, with its signature and its
+clauses; for each theorem, with what its module takes for granted; and for
 each definition, whole. Names stand without their crate and module, so that the
 list of a tree from before a move is the list of the tree after it; two such
 lists are compared by `diff`. With --outer it has only what others rely on: the
@@ -13,7 +14,9 @@ import pathlib
 import re
 import sys
 
-HEAD = re.compile(r"^(?:pub )?(?:extern \"C\" )?fn .*?^\{", re.M | re.S)
+# What methods stand in: a type's own, or those of a trait for a type; and what a trait asks for. The name is the type's, or the trait's.
+OWNER = re.compile(r"(?:pub )?(?:impl\b(?:<[^>]*>)?(?: .* for)?|trait) (\w+)")
+HEAD = re.compile(r"( {4}|)(?:pub )?(?:extern \"C\" )?fn (\w+)")
 DECLARED = re.compile(r"^(?:#\[repr\(C\)\]\n)?(?:#\[derive\([^\]]*\]\n)?pub (?:const .*?;$|(?:struct|enum) [^{;]*(?:;|\{.*?^\}))", re.M | re.S)
 MODULE = re.compile(r"^ *module _ (.*?) where$", re.S)
 DEFINED = re.compile(r"^ *(?:(?:abbrev|unfoldable) pub|pub (?:record|data)) ")
@@ -62,15 +65,38 @@ def declared(root):
                 yield plain(found, aliases(text))
 
 
+def heads(text):
+    """Each function of a source that has clauses, by its name, behind its owner's where it has one, with its head. What a public trait asks for begins
+    with `pub` here, as others can name it. Functions that an impl of a trait has by name have no clauses of their own."""
+    owner, open_to_all, indent, head = "", "", "", None
+    for line in text.splitlines():
+        opened = OWNER.match(line)
+        owner = opened[1] if opened else "" if line == "}" else owner
+        open_to_all = "pub " if opened and line.startswith("pub trait ") else open_to_all if owner and not opened else ""
+        begun = HEAD.match(line)
+        if begun:
+            indent, head = begun[1], []
+        if head is None:
+            continue
+        head.append(("" if head or not indent else open_to_all) + line[len(indent):])
+        if line == indent + "{" or (indent and line.endswith(";")):
+            name = re.search(r"fn (\w+)", head[0])[1]
+            yield "::".join([*([owner] if indent else []), name]), "\n".join(head)
+            head = None
+        elif line.endswith(("{", "{}")):
+            head = None
+
+
 def functions(root, outer):
     """Each function with a promise; the programs have none that others rely on."""
     for source in sorted(root.glob("crates/*/src/**/*.rt")):
         if is_program(root, source) or outer and not can_be_named(root, source):
             continue
         text = source.read_text()
-        for head in HEAD.findall(text):
+        for name, head in heads(text):
             if "ensures" in head and (head.startswith("pub ") or not outer):
-                yield plain(re.sub(r"^pub (?:extern \"C\" )?", "", head).rstrip("{"), aliases(text))
+                said = plain(re.sub(r"^pub (?:extern \"C\" )?", "", head).rstrip("{;"), aliases(text))
+                yield re.sub(r"^fn \w+", f"fn {name}", said)
 
 
 def believed(root):

@@ -21,27 +21,6 @@ def section(heading):
             if line.startswith("|")][2:]
 
 
-def heads(text):
-    """Each function of a source, with its owner's name, none where it stands by itself, and its head. A trait's own functions are among them, since
-    they have the clauses; those that an impl of a trait has by name have none of their own."""
-    owner, indent, head = "", "", None
-    for line in text.splitlines():
-        opened = re.match(r"(?:pub )?(?:impl\b(?:<[^>]*>)?(?: .* for)?|trait) (\w+)", line)
-        owner = opened[1] if opened else "" if line == "}" else owner
-        begun = re.match(r"( {4}|)(?:pub )?(?:extern \"C\" )?fn (\w+)", line)
-        if begun:
-            indent, head = begun[1], []
-        if head is None:
-            continue
-        head.append(line[len(indent):])
-        if line == indent + "{" or (indent and line.endswith(";")):
-            name = re.search(r"fn (\w+)", head[0])[1]
-            yield "::".join([*([owner] if indent else []), name]), "\n".join(head)
-            head = None
-        elif line.endswith("{"):
-            head = None
-
-
 def functions():
     """Each function of a library that others rely on, by its path, with its head: visibility, name and clauses."""
     for crate in sorted(CRATES.iterdir()):
@@ -50,7 +29,7 @@ def functions():
                 continue
             inside = source.relative_to(crate / "src").with_suffix("").parts
             path = [crate.name, *(part for part in inside if part != "lib")]
-            for name, head in heads(source.read_text()):
+            for name, head in listing.heads(source.read_text()):
                 yield "::".join([*path, name]), head
 
 
@@ -135,7 +114,8 @@ def asking():
 
 
 def public():
-    """The functions of the libraries that another crate can name; those that a thin crate hands to C are another's."""
+    """The functions of the libraries that another crate can name, and those that a public trait asks for; those that a thin crate hands to C are
+    another's."""
     for name, head in functions():
         crate, *inside, _ = name.split("::")
         modules = [part for part in inside if not part[0].isupper()]
