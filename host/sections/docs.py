@@ -79,12 +79,14 @@ def quotes(driver):
 
 
 def heads(source):
-    """The head of each function of a source: up to the line that opens its body. One that a trait asks for has none, and isn't proved by itself."""
-    head = None
+    """The head of each function of a source, behind the line that opens the impl or the trait that it stands in, empty for none: up to the line that opens
+    its body. One that a trait asks for has none, and isn't proved by itself."""
+    around, head = "", None
     for line in tidy.without_comments(source).splitlines():
+        around = line if re.match(r"(?:pub )?(?:impl|trait)\b", line) else "" if line == "}" else around
         head = [line] if re.match(r" *(pub(\(\w+\))? )?(const )?(extern \"C\" )?fn \w", line) else head and [*head, line]
         if head and re.search(r"(?:\{|;|\{\})$", line):
-            yield " ".join(head)
+            yield around, " ".join(head)
             head = None
 
 
@@ -93,10 +95,20 @@ def derived(text):
     return sum(len(re.findall(r"\b(?:Debug|PartialEq)\b", names)) for names in re.findall(r"#\[derive\(([^)]*)\)\]", text))
 
 
+def name_of(head):
+    return re.search(r"fn (\w+)", head)[1]
+
+
 def asked_for():
-    """The functions that our traits ask for, with a promise there; an impl's has that one."""
+    """The functions that our traits ask for, each behind its trait's name, with a promise there; that of an impl of the trait has that one."""
     text = "\n".join(path.read_text() for path in sorted((ROOT / "crates").glob("*/src/**/*.rt")))
-    return {re.search(r"fn (\w+)", head)[1] for head in heads(text) if head.endswith(";") and " ensures " in head}
+    return {(re.search(r"\btrait (\w+)", around)[1], name_of(head)) for around, head in heads(text) if head.endswith(";") and " ensures " in head}
+
+
+def is_asked_for(around, head, asked):
+    """Whether a function stands in an impl of one of our traits that asks for it with a promise."""
+    of = re.search(r"\bimpl\b.*?\b(\w+)(?:<[^{]*>)? for ", around)
+    return bool(of) and (of[1], name_of(head)) in asked
 
 
 def held_by_type(head):
@@ -111,18 +123,16 @@ def heads_of(crate):
         here, named = list(heads(path.read_text())), re.findall(r"\bfn \w", tidy.without_comments(path.read_text()))
         if len(here) != len(named):
             raise Failed(f"{path.relative_to(ROOT)}: {len(named)} functions, and {len(here)} heads")
-        found += [head for head in here if not head.endswith(";")]
+        found += [(around, head) for around, head in here if not head.endswith(";")]
     return found
 
 
 def promised():
     """How many functions promise something, and how many don't; those are in programs and in what is measured."""
-    counts = {"promised": 0, "safe": 0}
+    counts, asked = {"promised": 0, "safe": 0}, asked_for()
     for crate in house.listed():
-        for head in heads_of(crate):
-            name = re.search(r"fn (\w+)", head)[1]
-            by_trait = head.startswith("    fn ") and name in asked_for()
-            kind = "promised" if " ensures " in head or by_trait or held_by_type(head) else "safe"
+        for around, head in heads_of(crate):
+            kind = "promised" if " ensures " in head or is_asked_for(around, head, asked) or held_by_type(head) else "safe"
             if kind == "safe" and house.is_relied_on(crate):
                 raise Failed(f"{crate}: no promise: {head}")
             counts[kind] += 1
@@ -166,13 +176,14 @@ def gate_figures():
         raise Failed("target/ci.log isn't there: make test runs rt ci first")
     crates = {name: len(heads_of(name)) for name in house.listed()}
     made = {name: sum(derived(path.read_text()) for path in (ROOT / "crates" / name / "src").glob("**/*.rt")) for name in crates}
-    edits, seen, _ = refused.counted()
+    seen, _ = refused.counted()
+    edits = len(seen)
     whole_run(log.read_text(), {name: count + made[name] for name, count in crates.items()}, edits)
     axioms = {name: assumed(name) for name in [*filter(house.is_program, crates), *house.THIN, *house.MEASURED]}
     if any(axioms[name] for name in [*house.THIN, *house.MEASURED]):
         raise Failed(f"something is assumed of what C calls: {axioms}")
     return {"crates": len(crates), "functions": sum(crates.values()), "axioms": max(axioms.values()), "edits": edits, **promised(),
-            "wrong": sum(seen.values())}
+            "wrong": sum(map(len, seen))}
 
 
 def figures(driver):

@@ -97,22 +97,44 @@ def refused_alone(crate, edit, said, changes):
 
 
 def counted():
-    """How many edits there are, in how many of them each function is made wrong, and how many theorems are."""
+    """The functions that each edit makes wrong, and how many theorems they make wrong in all."""
     tried.all_logs(list(edits()))
-    count, seen, wrong = 0, collections.Counter(), 0
+    seen, wrong = [], 0
     for crate, edit, changes in edits():
-        seen.update(refused_alone(crate, edit, log_of(crate, edit), changes))
+        seen.append(refused_alone(crate, edit, log_of(crate, edit), changes))
         wrong += len(said_wrong(crate, edit, log_of(crate, edit), changes))
-        count += 1
-    return count, seen, wrong
+    return seen, wrong
+
+
+def impls():
+    """What the prover calls the impls of each trait: the type's name, and the trait's behind it."""
+    found = collections.defaultdict(set)
+    for path in CRATES.glob("*/src/**/*.rt"):
+        for owner in OWNER.finditer(path.read_text()):
+            if owner[1]:
+                found[owner[1]].add(owner[2] + owner[1])
+    return found
+
+
+def is_of(path, name, known):
+    """Whether a function has that path, or is an impl's where a trait's function has it."""
+    *_, owner, function = path.split("::")
+    *_, trait, asked = name.split("::")
+    return path == name or function == asked and owner in known.get(trait, ())
+
+
+def seldom(names, seen):
+    """The functions of those that are wrong in too few edits. One that a trait asks for is wrong where an impl's is."""
+    known = impls()
+    return sorted(name for name in names if sum(any(is_of(path, name, known) for path in wrong) for wrong in seen) < LEAST)
 
 
 def page(driver):
     """Every edit is refused as it should be, and every public function is wrong by itself in two edits or more."""
-    count, seen, wrong = counted()
+    seen, wrong = counted()
     names = set(public())
-    few = sorted(name for name in names if seen[name] < LEAST)
+    few = seldom(names, seen)
     if few:
         raise Failed(f"wrong by itself in fewer than {LEAST} edits: {', '.join(few)}")
-    return (f"{count} edits; {sum(seen.values())} wrong functions in them, and {wrong} wrong theorems, each refused by itself, and none for a "
+    return (f"{len(seen)} edits; {sum(map(len, seen))} wrong functions in them, and {wrong} wrong theorems, each refused by itself, and none for a "
             f"name or the shape of a proof; {len(names)} public functions, each wrong in {LEAST} edits or more")
