@@ -1,7 +1,8 @@
 // The words of a line, with one space between, one after the other.
 ghost use Rattle.std.specs.Prelude.{◌≡◌, Some, None, is_none, OnSome};
 ghost use Rattle.std.specs.Option.{option_copied, option_copied_mut, option_map};
-ghost use Rattle.replay.specs.ReplayWords.{first_word, behind_word, next_word, after_word, next_says, values_in, after_values, number_in, password_in, text_in, of_type, held_to};
+ghost use Rattle.replay.specs.ReplayWords.{number_in, password_in, text_in, of_type, held_to};
+ghost use Rattle.replay.specs.ReplayWords.{first_word, behind_word, next_word, after_word, next_says, values_in, after_values};
 ghost use Rattle.extended.specs.ReplyTypes.{typed};
 
 use crate::word_values::{
