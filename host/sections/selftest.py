@@ -7,6 +7,7 @@ import sys
 
 import extensions
 import harness
+import listing
 import model
 import offers
 import remembered
@@ -461,14 +462,28 @@ def typing():
             fails(terminal.held, f"{hides} # {terminal.PHRASE.strip()}", "good\n")]
 
 
+def owners():
+    """What a trait asks for with a promise, in an impl of that trait; then as a type's own function, in an impl of another trait, and by another name. A
+    method and what a public trait asks for are among the functions with clauses, the latter public. A trait's function is wrong where an impl's is."""
+    asked = {("Words", "order")}
+    impl, head = "impl Words for State {", "    fn order() -> Order {"
+    source = "\n".join(["pub trait Words {", "    fn order() -> Order", "        ensures { a };", "}",
+                        "impl State {", "    fn own(self)", "        ensures { b }", "    {", "    }", "}", ""])
+    name, known = "block::hashing::Words::order", {"Words": {"StateWords"}}
+    return [docs.is_asked_for(impl, head, asked), not docs.is_asked_for("impl State {", head, asked),
+            not docs.is_asked_for("impl Folded for State {", head, asked), not docs.is_asked_for(impl, head.replace("order", "initial"), asked),
+            [(name, head.split()[0]) for name, head in listing.heads(source)] == [("Words::order", "pub"), ("State::own", "fn")],
+            refused.is_of("block::kept::StateWords::order", name, known), not refused.is_of("block::kept::State::order", name, known)]
+
+
 def lists_can_fail(driver):
-    """What isn't so of the refusals, of the files to believe, of a quotation, of what is typed and of a program's crates is found."""
+    """What isn't so of the refusals, of the files to believe, of a quotation, of what is typed, of a program's crates and of a function's owner is found."""
     text, sources = "```rust\nfn one() {}\n```\n", {"rust": ["fn two() {}\nfn one() {}\n"], "edit": []}
     quotations = [not fails(docs.quoted, text, sources), fails(docs.quoted, text.replace("one", "three"), sources),
                   fails(docs.quoted, text.replace("rust", "edit"), sources)]
     crates = {"card": ["text", "check"], "text": ["refusal"], "refusal": [], "other": []}
     counts = [not fails(tools.counted, [("card", "3")], crates), fails(tools.counted, [("card", "4")], crates), fails(tools.counted, [], crates)]
-    found = [*refusals(), *beliefs(), *quotations, *typing(), *counts]
+    found = [*refusals(), *beliefs(), *quotations, *typing(), *counts, *owners()]
     if not all(found):
         raise Failed(f"of the {len(found)}, as they should be: {found}")
     return f"{len(found)} cases: what isn't so is reported, and nothing else"
