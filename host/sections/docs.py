@@ -111,11 +111,6 @@ def is_asked_for(around, head, asked):
     return bool(of) and (of[1], name_of(head)) in asked
 
 
-def held_by_type(head):
-    """Whether what a function makes is said by its type: the constants of MD5's rounds, which stand in its ghost fields, and nothing at all."""
-    return bool(re.search(r"-> Constants \{$|fn lent\(\) \{\}$", head))
-
-
 def heads_of(crate):
     """The heads of a crate's functions; every `fn` that has a name has one."""
     found = []
@@ -132,7 +127,7 @@ def promised():
     counts, asked = {"promised": 0, "safe": 0}, asked_for()
     for crate in house.listed():
         for around, head in heads_of(crate):
-            kind = "promised" if " ensures " in head or is_asked_for(around, head, asked) or held_by_type(head) else "safe"
+            kind = "promised" if " ensures " in head or is_asked_for(around, head, asked) else "safe"
             if kind == "safe" and house.is_relied_on(crate):
                 raise Failed(f"{crate}: no promise: {head}")
             counts[kind] += 1
