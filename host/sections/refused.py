@@ -38,7 +38,7 @@ def function_at(crate, file, source, place):
     if not heads or 0 <= source.find(f"\n{heads[-1][1]}}}\n", heads[-1].start()) < place:
         return None
     owners = [owner for owner in OWNER.finditer(source) if owner.start() <= place] if heads[-1][1] else []
-    inside = [part for part in file.removeprefix("src/").removesuffix(".rt").split("/") if part != "lib"]
+    inside = [part for part in file.removeprefix("src/").removesuffix(".rt").split("/") if part not in ("lib", "main")]
     return "::".join([crate, *inside, *(owner[2] + (owner[1] or "") for owner in owners[-1:]), heads[-1][2]])
 
 
