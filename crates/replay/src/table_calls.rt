@@ -98,10 +98,13 @@ impl Controller {
         }
     }
 
+    // On a table of its own: one that is put back into the controller at each tick is copied once more each time.
     fn tick(&mut self, n: u64) {
+        let mut table = self.table;
         for _ in 0..n {
-            self.table = login::tick(self.table);
+            table = login::tick(table);
         }
+        self.table = table;
     }
 
     pub fn answer(&mut self, to: io::Stdout, call: TableCall) -> io::Result<()> {
