@@ -4,17 +4,29 @@ use extended::reply_texts::{ReplyText, seed_part};
 use refusal::{Checked, Listing, Refusal, Written, listing_of};
 use std::{fmt, io};
 
+const DIGITS: [u8; 16] = *b"0123456789abcdef";
+
 // Bytes in hex; `-` where there are none.
 #[derive(Clone, Copy)]
 pub struct Hex<'a>(pub &'a [u8]);
+
+// Up to 64 bytes, by one write: `{b:02x}` would be a format and a write for each. Digits are text, so `unwrap_or` never meets an error.
+fn put_some<W: fmt::Write>(f: &mut fmt::Formatter<W>, bytes: &[u8]) -> fmt::Result {
+    let mut digits = [0u8; 128];
+    for (two, b) in digits.chunks_mut(2).zip(bytes) {
+        two.copy_from_slice(&[DIGITS[usize::from(*b / 16)], DIGITS[usize::from(*b % 16)]]);
+    }
+    let shown = &digits[..(2 * bytes.len()).min(128)];
+    f.write_str(str::from_utf8(shown).unwrap_or(""))
+}
 
 impl fmt::Display for Hex<'_> {
     fn fmt<W: fmt::Write>(&self, f: &mut fmt::Formatter<W>) -> fmt::Result {
         if self.0.is_empty() {
             return write!(f, "-");
         }
-        for b in self.0 {
-            write!(f, "{b:02x}")?;
+        for some in self.0.chunks(64) {
+            put_some(f, some)?;
         }
         Ok(())
     }
