@@ -5,7 +5,7 @@ ghost use Rattle.text.specs.Kinds.{of_kind};
 ghost use Rattle.text.specs.Scan.{run_of, stretch, index_of};
 ghost use Rattle.text.specs.Tests.{same as same_text};
 
-use crate::kinds::{Kind, is_white};
+use crate::kinds::{Kind, is_white, lower};
 
 // Whether a byte is of that kind.
 fn of_kind(kind: Kind, b: u8) -> bool
@@ -56,14 +56,16 @@ pub fn same(a: &[u8], b: &[u8]) -> bool
     a.len() == b.len() && a.iter().zip(b).all(|(x, y)| x == y)
 }
 
-// What a hex digit of either case stands for, if the byte is one. By ranges: `to_digit` takes a character and gives a `u32`, and is no plainer.
+// What a hex digit of either case stands for, if the byte is one: a decimal digit by one range, and a letter by one, in lower case. `to_digit` takes a
+// character and gives a `u32`, and is no plainer.
 pub fn digit_value(b: u8) -> Option<u8>
     ensures { result ≡ digit_found b }
 {
-    match b {
-        b'0'..=b'9' => Some(b - b'0'),
-        b'a'..=b'f' => Some(b - b'a' + 10),
-        b'A'..=b'F' => Some(b - b'A' + 10),
+    if b.is_ascii_digit() {
+        return Some(b - b'0');
+    }
+    match lower(b) {
+        letter @ b'a'..=b'f' => Some(letter - b'a' + 10),
         _ => None,
     }
 }

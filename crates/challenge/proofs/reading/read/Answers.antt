@@ -42,7 +42,7 @@ good_count c =
     let name_end = c.token_and_end.ensures in
     let there = c.past_blanks.ensures in
     let said = c.read_count.ensures ∙ ap counted_of (c.token_and_end-2.ensures.0
-        ∙ ap₂ (λ (t : Bor (List ℕ)) (k : ℕ). token_at t.now k) (there.0 ∙ name_end.1) (there.1 ∙ ap₂ past name_end.1 name_end.2)) in
+    ∙ ap₂ (λ (t : Bor (List ℕ)) (k : ℕ). token_at t.now k) (there.0 ∙ name_end.1) (there.1 ∙ ap₂ past name_end.1 name_end.2)) in
     is_read _ _ (sym said ∙ present _ _ _ (sym c.ok_or-2.ensures.value ∙ c.in_ok-count.was))
 
 pub returns-then-not-is_opened : goal.returns-then-not-is_opened
