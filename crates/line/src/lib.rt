@@ -117,7 +117,8 @@ impl Lines {
         ensures { (gone : Bool → Place → Bool) (after : ℕ → ℕ)
             → Keeps gone after (F.post change) → waiting_in result ≡ changed gone after [] (waiting_in self) }
     {
-        let mut stay = Lines { len: 0, ..self };
+        let mut places = self.places;
+        let mut kept = 0;
         // The rooms of the places before this one.
         let mut seen = [false; 32];
         for place in self.in_use() {
@@ -125,11 +126,11 @@ impl Lines {
             let front = !seen[room];
             seen[room] = true;
             if let Some(turn) = change(*place, front) {
-                stay.places[stay.len] = place.stays(front, turn);
-                stay.len += 1;
+                places[kept] = place.stays(front, turn);
+                kept += 1;
             }
         }
-        stay
+        Lines { places, len: kept }
     }
 
     // The port leaves the line that it is in.

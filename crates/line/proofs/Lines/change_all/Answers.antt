@@ -20,25 +20,25 @@ loop-place-preserved g c =
     let seen = seen_next at.seen l at.place-index _ own (omega arith) (omega arith) keep.4 in
     elim c.match-change.branch [
       | in-Some w ↦
-          rw (w.stay-is, w.stays.ensures) (
+          rw (w.places-is, w.kept-is, w.stays.ensures) (
             omega arith,
-            length-set at.stay.places at.stay.len _ ∙ keep.1,
+            length-set at.places at.kept _ ∙ keep.1,
             omega arith,
             length-set at.seen _ true ∙ keep.3,
             seen,
             λ gone after k.
-                made_stays gone after l at.seen at.place-index _ own (omega arith) keep.4 at.stay.places at.stay.len (keep.5 gone after k)
+                made_stays gone after l at.seen at.place-index _ own (omega arith) keep.4 at.places at.kept (keep.5 gone after k)
                 w.in-Some.turn (sym w.in-Some.is ∙ k _ _ _ c.change.ensures) (omega arith),
           )
       | in_default w ↦
-          rw w.stay-is (
+          rw (w.places-is, w.kept-is) (
             omega arith,
             keep.1,
             omega arith,
             length-set at.seen _ true ∙ keep.3,
             seen,
             λ gone after k.
-                made_gone gone after l at.seen at.place-index _ own (omega arith) keep.4 at.stay.places at.stay.len (keep.5 gone after k)
+                made_gone gone after l at.seen at.place-index _ own (omega arith) keep.4 at.places at.kept (keep.5 gone after k)
                 (sym w.in_default.is ∙ k _ _ _ c.change.ensures),
           )
     ]

@@ -8,6 +8,6 @@ use Rattle.line.proofs.Lines.change_all.Given as goal
 abbrev pub invariant-loop-place : goal.invariant-loop-place
 invariant-loop-place g l =
     let before = take l.place-index l.place-items in
-    (l.stay.len ≤ l.place-index) × (length l.stay.places ≡ 4) × (length l.place-items ≤ 4) × (length l.seen ≡ 32) × Seen l.seen before
+    (l.kept ≤ l.place-index) × (length l.places ≡ 4) × (length l.place-items ≤ 4) × (length l.seen ≡ 32) × Seen l.seen before
     × ((gone : Bool → Place → Bool) (after : ℕ → ℕ) → Keeps gone after (goal.F-post g l.change)
-    → take l.stay.len l.stay.places ≡ changed gone after [] before)
+    → take l.kept l.places ≡ changed gone after [] before)
