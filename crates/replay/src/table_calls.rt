@@ -98,8 +98,7 @@ impl Controller {
         }
     }
 
-    // On a table of its own, and a function of its own: taken in line into `answer`, the lines went through memory at each tick.
-    #[inline(never)]
+    // On a table of its own: one that is put back into the controller at each tick is copied once more each time.
     fn tick(&mut self, n: u64) {
         let mut table = self.table;
         for _ in 0..n {
